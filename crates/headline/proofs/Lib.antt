@@ -6,6 +6,7 @@ pub mod Loading
 pub mod Rooted
 pub mod UsedImports
 pub mod Headline
+mod RenotedRows
 mod RenotedUnused
 mod RenotedChoice
 mod RenotedParts
@@ -14,6 +15,7 @@ mod RenotedKnown
 mod RenotedIf
 mod RenotedIdle
 mod RenotedTry
+mod RenotedValue
 mod RenotedImports
 mod RenotedSites
 pub mod Renoted

@@ -2,11 +2,11 @@
 use Rattle.std.proofs.Common.{◌≡◌, ◌∙◌, ◌+◌, ℕ, suc, List, Bool, true, false, not, ◌&&◌, ◌||◌, Option, Some, None, is_some, if◌then◌else◌, refl, sym, ap, ap₂, subst, inl, inr}
 use mathlib.Core.Path.{fun_ext}
 use Rattle.js_syntax.specs.declared.node_kind.NodeKind.{NodeKind as Kind}
-use Rattle.js_syntax.specs.declared.node_kind.NodeKind.TheVariants.{Function as function, UnaryExpression as unary_expression, BindingName as binding_name, ReferenceName as reference_name, Specifiers as specifiers, EmptyStatement as empty_statement, ExpressionStatement as expression_statement, VariableDeclarator as variable_declarator, ConditionalExpression as conditional_expression, LogicalExpression as logical_expression}
+use Rattle.js_syntax.specs.declared.node_kind.NodeKind.TheVariants.{Function as function, UnaryExpression as unary_expression, BindingName as binding_name, ReferenceName as reference_name, Specifiers as specifiers, EmptyStatement as empty_statement, ExpressionStatement as expression_statement, VariableDeclaration as variable_declaration, VariableDeclarator as variable_declarator, ConditionalExpression as conditional_expression, LogicalExpression as logical_expression}
 use Rattle.js_syntax.specs.declared.kind.FunctionKind.TheVariants as function_kind
 use Rattle.js_syntax.specs.declared.kind.VariableKind.TheVariants as variable
 use Rattle.js_syntax.specs.declared.operator.UnaryOperator.TheVariants as unary
-use Rattle.js_syntax.specs.Node.{Forest, Tree, Note, nothing, node, absent, nowhere, bare, forest_of}
+use Rattle.js_syntax.specs.Node.{Forest, Tree, Note, nothing, node, absent, alone, nowhere, bare, forest_of}
 use Rattle.js_effects.specs.Silence.{is_nothing, is_one_name, runs_its_parts}
 use Rattle.js_effects.proofs.Bare.{runs_bare, one_name_bare}
 use Rattle.js_meaning_near.specs.Near.{cuts_off}
@@ -19,7 +19,7 @@ use Rattle.scope_rules.specs.Binding.{named_in, binding_of}
 use Rattle.scope_laws.specs.Place.{Around, first, behind, behind_none, under, plug}
 use Rattle.scope_laws.proofs.Notes.{unseen, scope_count_bare}
 use Rattle.steps.specs.Allowed.Silent.{read_in, IsFound, IsSilentNode, IsSilent, HoldsThere}
-use Rattle.steps.specs.Allowed.Exposure.{Exposure, exposed_inside, exposed_of, exposed_at, exposure, function_is_exposed, evaluates_somewhere, IsOwnFunction, IsOwnDeclarator}
+use Rattle.steps.specs.Allowed.Exposure.{Exposure, exposed_inside, exposed_of, exposed_at, exposure, shares, function_is_exposed, evaluates_somewhere, IsOwnFunction, IsOwnDeclarator}
 use Rattle.steps.specs.Allowed.Uses.{Use, use_below, use_there, use_at, matters, stands_bare}
 use Rattle.steps.specs.Allowed.Unused.{Taker, somebody, is_nobody, taken_below, taken_there}
 use Rattle.steps.specs.Steps.{binds_import}
@@ -51,12 +51,15 @@ use Rattle.steps.specs.Allowed.RepeatedImport.{asks_for, is_asked_before, import
 use Rattle.steps.specs.Allowed.IdleTry.{IdleTry}
 use Rattle.steps.specs.Allowed.IdleBody.{has_body, stands_as_body, IdleBody, idle_body_empties}
 use Rattle.steps.specs.Allowed.IdleStatement.{does_nothing, IdleStatement, idle_leaves}
+use Rattle.steps.specs.KeepForm.Part.{declares_one}
+use Rattle.steps.specs.Naming.Standing.{layer_of}
+use Rattle.steps.specs.Allowed.ValueStays.{ValueStays, value_is_stated}
 use Rattle.steps.specs.Allowed.UnrunValue.{passes, is_unrun, is_value_of, is_value, a_zero, UnrunValue, value_never_given}
 use Rattle.steps.specs.Allowed.Untaken.{truth_given, untaken_where, is_known, leads_to_untaken, begins_untaken, runs_inside, is_untaken, Untaken, never_taken}
 use Rattle.steps.proofs.Owed.Changing.{cuts_bare}
 use Rattle.steps.proofs.Owed.ExposedBare.{bare_inside, bare_below, bare_exposed}
 use Rattle.steps.proofs.Owed.Focus.{follows_there}
-use Rattle.headline.specs.Clean.{IsDead, an_empty_statement, an_empty_block, a_silent_statement, an_unused_function, an_unused_declarator, an_unused_import, a_known_conditional, a_known_side, an_unused_operation, an_unused_list, an_indirect_choice, a_one_sided_choice, idle_parts, two_sides, an_unused_object, a_known_operation, a_known_if, a_dead_if, an_empty_if, an_empty_alternate, an_unreached_statement, an_untaken_statement, an_unrun_value, an_idle_statement, a_repeated_import, an_idle_try, an_idle_body, CleanBut}
+use Rattle.headline.specs.Clean.{IsDead, an_empty_statement, an_empty_block, a_silent_statement, an_unused_function, an_unused_declarator, a_value_of_an_unused_name, an_unused_import, a_known_conditional, a_known_side, an_unused_operation, an_unused_list, an_indirect_choice, a_one_sided_choice, idle_parts, two_sides, an_unused_object, a_known_operation, a_known_if, a_dead_if, an_empty_if, an_empty_alternate, an_unreached_statement, an_untaken_statement, an_unrun_value, an_idle_statement, a_repeated_import, an_idle_try, an_idle_body, CleanBut}
 use Rattle.headline.proofs.RenotedImports.{merged_as}
 use Rattle.headline.proofs.RenotedUnused.{stands_as, needed_as, child_as, list_as}
 use Rattle.headline.proofs.RenotedChoice.{counts_as, follows_as}
@@ -66,31 +69,12 @@ use Rattle.headline.proofs.RenotedKnown.{known_as, negative_as, given_bare, trut
 use Rattle.steps.proofs.Owed.EmptyBlock.{holds_bare}
 use Rattle.headline.proofs.RenotedIdle.{idle_bare}
 use Rattle.headline.proofs.RenotedTry.{idle_try_as}
+use Rattle.headline.proofs.RenotedRows.{same_below, same_rest, same_kind, same_absent, nothing_node, nothing_absent, absent_node, nothing_bare, begins, opened, before_one, before_two}
+use Rattle.headline.proofs.RenotedValue.{stated_as, declares_as}
 use Rattle.headline.proofs.RenotedIf.{declares_bare, known_if_as, dead_if_as, empty_if_as, empty_alternate_as}
 use Rattle.headline.proofs.RenotedSites.{free_as, inside_same, opens_same, same_binding}
 
--- ---- two trees node by node
-
-same_below : {k l : Kind} {a b c d : Forest} → node k nowhere a c ≡ node l nowhere b d → a ≡ b
-same_below e = cc
-
-same_rest : {k l : Kind} {a b c d : Forest} → node k nowhere a c ≡ node l nowhere b d → c ≡ d
-same_rest e = cc
-
-same_kind : {k l : Kind} {a b c d : Forest} → node k nowhere a c ≡ node l nowhere b d → k ≡ l
-same_kind e = cc
-
-same_absent : {c d : Forest} → absent c ≡ absent d → c ≡ d
-same_absent e = cc
-
-nothing_node : {k : Kind} {n : Note} {a c : Forest} → nothing ≡ node k n a c → ⊥
-nothing_node e = cc
-
-nothing_absent : {c : Forest} → nothing ≡ absent c → ⊥
-nothing_absent e = cc
-
-absent_node : {k : Kind} {n : Note} {a c d : Forest} → absent d ≡ node k n a c → ⊥
-absent_node e = cc
+-- ---- what stands behind a node
 
 place_as : (next : ℕ) (k : Kind) (n m : Note) (f g : Forest) → bare f ≡ bare g → next + scope_count (node k n f nothing) ≡ next + scope_count (node k m g nothing)
 place_as next k n m f g e = ap (λ (i : ℕ). next + i) (unseen scope_count scope_count_bare (node k n f nothing) (node k m g nothing) (ap (λ x. node k nowhere x nothing) e))
@@ -377,93 +361,6 @@ module _ (t u : Forest) (e : bare t ≡ bare u) where
       → SilentDeclarator t (node (binding_name x) n nothing g) w c next
   declarator_as x m n f g h w c next s = (ap (λ b. w && b) (sym (given_same f g h)) ∙ s.0, silent_in w (inside c next variable_declarator (node (binding_name x) m nothing f)) 1 (next + 0 + 0) f g h s.1)
 
--- ---- rows that begin with a name
-
-record Begins (f : Forest) (x : List ℕ) (rest : Forest) : Type 0 where
-  note : Note
-  rest_now : Forest
-  is : f ≡ node (binding_name x) note nothing rest_now
-  same : bare rest ≡ bare rest_now
-
-nothing_bare : (f : Forest) → bare f ≡ nothing → f ≡ nothing
-nothing_bare nothing e = refl
-nothing_bare (absent r) e = absurd (nothing_absent (sym e))
-nothing_bare (node k n b r) e = absurd (nothing_node (sym e))
-
-begins : (f : Forest) (x : List ℕ) (m : Note) (rest : Forest) → bare f ≡ bare (node (binding_name x) m nothing rest) → Begins f x rest
-begins nothing x m rest e = absurd (nothing_node e)
-begins (absent r) x m rest e = absurd (absent_node e)
-begins (node k n b r) x m rest e = record { note = n; rest_now = r; is = ap₂ (λ j c. node j n c r) (same_kind e) (nothing_bare b (same_below e)); same = sym (same_rest e) }
-
--- ---- rows that begin with a node
-
-record Opens (f : Forest) (k : Kind) (below rest : Forest) : Type 0 where
-  note : Note
-  below_now : Forest
-  rest_now : Forest
-  is : f ≡ node k note below_now rest_now
-  same_below : bare below_now ≡ bare below
-  same_rest : bare rest_now ≡ bare rest
-
-opened : (f : Forest) (k : Kind) (n : Note) (b r : Forest) → bare f ≡ bare (node k n b r) → Opens f k b r
-opened nothing k n b r e = absurd (nothing_node e)
-opened (absent s) k n b r e = absurd (absent_node e)
-opened (node l m c s) k n b r e = record { note = m; below_now = c; rest_now = s; is = ap (λ j. node j m c s) (same_kind e); same_below = same_below e; same_rest = same_rest e }
-
--- a node before one, or before two
-record BeforeOne (f : Forest) (t : Kind) (d : Forest) (k : Kind) (b : Forest) : Type 0 where
-  note : Note
-  below : Forest
-  first_note : Note
-  first_below : Forest
-  is : f ≡ node t note below (node k first_note first_below nothing)
-  same_below : bare below ≡ bare d
-  same : bare first_below ≡ bare b
-
-before_one : (f : Forest) (t : Kind) (m i : Note) (d : Forest) (k : Kind) (b : Forest) → bare f ≡ bare (node t m d (node k i b nothing)) → BeforeOne f t d k b
-before_one f t m i d k b e =
-    let o = opened f t m d (node k i b nothing) e in
-    let p = opened o.rest_now k i b nothing o.same_rest in
-    record {
-      note = o.note;
-      below = o.below_now;
-      first_note = p.note;
-      first_below = p.below_now;
-      is = o.is ∙ ap (λ y. node t o.note o.below_now y) (p.is ∙ ap (λ x. node k p.note p.below_now x) (nothing_bare p.rest_now p.same_rest));
-      same_below = o.same_below;
-      same = p.same_below;
-    }
-
-record BeforeTwo (f : Forest) (t : Kind) (d : Forest) (k : Kind) (b : Forest) (l : Kind) (c : Forest) : Type 0 where
-  note : Note
-  below : Forest
-  first_note : Note
-  first_below : Forest
-  second_note : Note
-  second_below : Forest
-  is : f ≡ node t note below (node k first_note first_below (node l second_note second_below nothing))
-  same_below : bare below ≡ bare d
-  same_first : bare first_below ≡ bare b
-  same_second : bare second_below ≡ bare c
-
-before_two : (f : Forest) (t : Kind) (m i j : Note) (d : Forest) (k : Kind) (b : Forest) (l : Kind) (c : Forest) → bare f ≡ bare (node t m d (node k i b (node l j c nothing))) → BeforeTwo f t d k b l c
-before_two f t m i j d k b l c e =
-    let o = opened f t m d (node k i b (node l j c nothing)) e in
-    let p = opened o.rest_now k i b (node l j c nothing) o.same_rest in
-    let q = opened p.rest_now l j c nothing p.same_rest in
-    record {
-      note = o.note;
-      below = o.below_now;
-      first_note = p.note;
-      first_below = p.below_now;
-      second_note = q.note;
-      second_below = q.below_now;
-      is = o.is ∙ ap (λ y. node t o.note o.below_now y) (p.is ∙ ap (λ x. node k p.note p.below_now x) (q.is ∙ ap (λ x. node l q.note q.below_now x) (nothing_bare q.rest_now q.same_rest)));
-      same_below = o.same_below;
-      same_first = p.same_below;
-      same_second = q.same_below;
-    }
-
 -- ---- dead code
 
 module _ (unused imports : Bool) (t u : Forest) (e : bare t ≡ bare u) (clean : CleanBut unused imports t) where
@@ -537,6 +434,27 @@ module _ (unused imports : Bool) (t u : Forest) (e : bare t ≡ bare u) (clean :
       × At o.around (a_node k o.note d) quiet × At o.around (a_node k o.note d) (FreeDeclarator t x)) f.is now in
       clean.nothing_is_dead o.around (a_declarator o.note f.note x f.rest_now) there.0
       (an_unused_declarator o.around o.note f.note x f.rest_now goes (declares_as a o declares) there.1 there.2 there.3)
+
+  no_stated : (a : Around) (x y : Tree) → u ≡ plug a (Some x) → unused ≡ false → ValueStays a x y → ⊥
+  no_stated a _ _ is goes (value_is_stated how n m l j i out x k b may item without own free) =
+      let d = variable_declaration how in
+      let old = declares_one m l j x (alone k i b) in
+      let o = other_place a d n old is in
+      let f = declares_as o.below m l j i x k b o.same in
+      let there : Forest → Forest = λ c. plug o.around (a_node d o.note c) in
+      let then_ = plug a (a_node d n old) in
+      let same : bare (there o.below) ≡ bare then_ = sym (ap bare o.is) ∙ e ∙ ap bare is in
+      let now : (t ≡ there o.below) × (shares (exposure o.around (a_node d o.note o.below)) how || evaluates_somewhere (there o.below) ≡ false) × At o.around (a_node d o.note o.below) (Free (there o.below) how x) = (
+        o.is,
+        ap₂ (λ (q : Exposure) v. shares q how || v) (exposure_as a o is) (evaluates_as a o is) ∙ own,
+        follows_there (Free then_ how x) (Free (there o.below) how x) (λ v c w h. free_as (there o.below) then_ same (named_in x (layer_of how c)) h) (a_node d o.note o.below) o.around false (λ at. outermost) 0 0
+            (o.holds (Free then_ how x) false (λ at. outermost) 0 0 free),
+      ) in
+      let at_place = subst (λ c. (t ≡ there c) × (shares (exposure o.around (a_node d o.note c)) how || evaluates_somewhere (there c) ≡ false) × At o.around (a_node d o.note c) (Free (there c) how x)) f.is now in
+      let outside_with = ap (λ (w : Asked). w.in_with) (o.asked (asked_of_program true)) ∙ without in
+      clean.nothing_is_dead o.around _ at_place.0
+      (a_value_of_an_unused_name o.around _ _ goes
+      (value_is_stated how o.note f.list_note f.declarator_note f.name_note f.value_note out x k f.value_below (stated_as k f.value_below b f.same may) (item_as a o item) outside_with at_place.1 at_place.2))
 
   no_import : (a : Around) (k : Kind) (n m : Note) (x : List ℕ) → u ≡ plug a (an_imported k n m x) → unused ≡ false → imports ≡ false → binds_import k ≡ true → IsImported a → IsOwnDeclarator a (an_imported k n m x) → At a (an_imported k n m x) (FreeDeclarator u x) → ⊥
   no_import a k n m x is goes named binds imported own free =
@@ -743,6 +661,7 @@ module _ (unused imports : Bool) (t u : Forest) (e : bare t ≡ bare u) (clean :
   none_dead a x is (a_silent_statement b n below silent) = no_silent b n below is silent
   none_dead a x is (an_unused_function b pure n m y rest goes item own free) = no_function b pure n m y rest is goes item own free
   none_dead a x is (an_unused_declarator b n m y value goes item own silent free) = no_declarator b n m y value is goes item own silent free
+  none_dead a x is (a_value_of_an_unused_name b y z goes stays) = no_stated b y z is goes stays
   none_dead a x is (an_unused_import b k n m y goes named binds imported own free) = no_import b k n m y is goes named binds imported own free
   none_dead a x is (a_known_conditional b y z known) = no_conditional b y z is known
   none_dead a x is (a_known_side b y z known) = no_side b y z is known

@@ -30,7 +30,7 @@ matters_bare u w parenthesized_expression (absent rest) = refl
 matters_bare u w parenthesized_expression nothing = refl
 matters_bare u w k t = refl
 
-names_taken_bare : (k : Kind) (t : Forest) → may_take_name k (bare t) ≡ may_take_name k t
+pub names_taken_bare : (k : Kind) (t : Forest) → may_take_name k (bare t) ≡ may_take_name k t
 names_taken_bare (function how pure) t = refl
 names_taken_bare (class how) t = refl
 names_taken_bare parenthesized_expression (node k n below rest) = names_taken_bare k below

@@ -55,6 +55,8 @@ use Rattle.steps.specs.Allowed.RepeatedImport.{RepeatedImport}
 use Rattle.steps.specs.Allowed.MergedImports.{MergedImports}
 -- and a value that a declaration gives in such a branch
 use Rattle.steps.specs.Allowed.UnrunValue.{UnrunValue}
+-- and a declaration of a name that nothing uses, and a statement of its value
+use Rattle.steps.specs.Allowed.ValueStays.{ValueStays}
 -- whose names only the tree's references may use
 use Rattle.steps.specs.Allowed.Exposure.{IsOwnFunction, IsOwnDeclarator}
 
@@ -74,6 +76,9 @@ pub data IsDead (unused imports : Bool) (t : Forest) : Around → Option Tree �
   -- or none
   an_unused_declarator : (a : Around) (n m : Note) (x : List ℕ) (value : Forest) → unused ≡ false → IsDeclarator a → IsOwnDeclarator a (a_declarator n m x value)
       → At a (a_declarator n m x value) (SilentDeclarator t (node (binding_name x) m nothing value)) → At a (a_declarator n m x value) (FreeDeclarator t x) → IsDead unused imports t a (a_declarator n m x value)
+  -- a declaration of one such name in a list of statements, and not inside of a `with` statement, whose value is no literal, function or
+  -- class: a statement of the value does what anybody sees of it
+  a_value_of_an_unused_name : (a : Around) (x y : Tree) → unused ≡ false → ValueStays a x y → IsDead unused imports t a (Some x)
   -- a name of an import that nothing refers to, no export is of and no other code may use: the import itself stays, for its module is
   -- loaded
   an_unused_import : (a : Around) (k : Kind) (n m : Note) (x : List ℕ) → unused ≡ false → imports ≡ false → binds_import k ≡ true → IsImported a → IsOwnDeclarator a (an_imported k n m x) → At a (an_imported k n m x) (FreeDeclarator t x) → IsDead unused imports t a (an_imported k n m x)

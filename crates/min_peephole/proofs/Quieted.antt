@@ -15,7 +15,7 @@ use Rattle.headline.proofs.Renoted.{clean_as}
 use Rattle.rules.proofs.Told.New.{new_told_only}
 use Rattle.exported_names.proofs.New.{known, only}
 use Rattle.rules.specs.DeadCode.Quiet.{EachNode, IsQuietAt}
-use Rattle.rules.specs.DeadCode.Rules.{Facts, where_of, has_dead, becomes_empty}
+use Rattle.rules.specs.DeadCode.Rules.{Facts, where_of, has_dead, becomes_empty, becomes_stated}
 use Rattle.rules.proofs.DeadCode.Walked.{quiet_nodes}
 use Rattle.rules.specs.Imports.Merged.{come_together}
 use Rattle.rules.specs.Imports.Repeated.{list_once}
@@ -61,20 +61,26 @@ module _ (f : Facts) (p : Place) (n : Note) (k : Kind) (inner : Forest) (h : sta
   abbrev is_emptied : Bool
   is_emptied = becomes_empty f p k inner
 
+  abbrev is_stated : Bool
+  is_stated = becomes_stated f p k inner
+
   abbrev is_settled : Bool
   is_settled = decides_none p n k inner && (wastes_none p n k inner && (keeps_parts p n k inner && computes_none p n k inner))
 
   abbrev uses_all : Bool
   uses_all = uses_names f p n k inner
 
-  at_node : (not one_goes ≡ true) × (not is_emptied && (uses_all && is_settled) ≡ true)
-  at_node = and_parts (not one_goes) (not is_emptied && (uses_all && is_settled)) h
+  at_node : (not one_goes ≡ true) × (not is_emptied && (not is_stated && (uses_all && is_settled)) ≡ true)
+  at_node = and_parts (not one_goes) (not is_emptied && (not is_stated && (uses_all && is_settled))) h
 
-  at_statement : (not is_emptied ≡ true) × (uses_all && is_settled ≡ true)
-  at_statement = and_parts (not is_emptied) (uses_all && is_settled) at_node.1
+  at_statement : (not is_emptied ≡ true) × (not is_stated && (uses_all && is_settled) ≡ true)
+  at_statement = and_parts (not is_emptied) (not is_stated && (uses_all && is_settled)) at_node.1
+
+  at_declaration : (not is_stated ≡ true) × (uses_all && is_settled ≡ true)
+  at_declaration = and_parts (not is_stated) (uses_all && is_settled) at_statement.1
 
   at_import : (uses_all ≡ true) × (is_settled ≡ true)
-  at_import = and_parts uses_all is_settled at_statement.1
+  at_import = and_parts uses_all is_settled at_declaration.1
 
   abbrev keeps_all : Bool
   keeps_all = keeps_parts p n k inner && computes_none p n k inner
@@ -89,7 +95,7 @@ module _ (f : Facts) (p : Place) (n : Note) (k : Kind) (inner : Forest) (h : sta
   at_values = and_parts (keeps_parts p n k inner) (computes_none p n k inner) at_parts.1
 
   quiet_here : IsQuietAt f p (record { kind = k; note = n; below = inner })
-  quiet_here = record { list = list_stays k (has_dead f (where_of p) inner) at_node.0; statement = none_empty is_emptied _ at_statement.0 }
+  quiet_here = record { list = list_stays k (has_dead f (where_of p) inner) at_node.0; statement = none_empty is_emptied _ at_statement.0; declaration = none_empty is_stated _ at_declaration.0 }
 
   used_here : IsUsedAt f p (record { kind = k; note = n; below = inner })
   used_here =

@@ -9,7 +9,7 @@ use Rattle.min_context.specs.Above.{above_of}
 use Rattle.min_context.specs.Place.{Place, Spot, place_of, next_of, below, top, goes_on}
 use Rattle.exported_names.specs.Answers.{bound_of}
 use Rattle.exported_names.specs.Exported.{exported_of}
-use Rattle.rules.specs.DeadCode.Rules.{Facts, where_of, has_dead, becomes_empty}
+use Rattle.rules.specs.DeadCode.Rules.{Facts, where_of, has_dead, becomes_empty, becomes_stated}
 use Rattle.rules.specs.Imports.Merged.{come_together}
 use Rattle.rules.specs.Imports.Repeated.{list_once}
 use Rattle.rules.specs.Imports.Rules.{pruned}
@@ -61,11 +61,11 @@ computes_none p n k inner =
 abbrev pub uses_names : Facts → Place → Note → Kind → (inner : Forest) → Bool
 uses_names f p n k inner = not (is_some (pruned f (where_of p) (record { kind = k; note = n; below = inner }))) && (not (is_some (list_once n k inner)) && not (is_some (come_together f p (record { kind = k; note = n; below = inner }))))
 
--- a node at a place: no item of a list goes, no statement becomes empty, no name leaves an import, and no expression comes to its parts or its value
+-- a node at a place: no item of a list goes, no statement becomes empty, no declaration becomes a statement of its value, no name leaves an import, and no expression comes to its parts or its value
 abbrev pub stays : Facts → Place → Note → Kind → (inner : Forest) → Bool
 stays f p n k inner =
     not (is_row k && has_dead f (where_of p) inner)
-    && (not (becomes_empty f p k inner) && (uses_names f p n k inner && (decides_none p n k inner && (wastes_none p n k inner && (keeps_parts p n k inner && computes_none p n k inner)))))
+    && (not (becomes_empty f p k inner) && (not (becomes_stated f p k inner) && (uses_names f p n k inner && (decides_none p n k inner && (wastes_none p n k inner && (keeps_parts p n k inner && computes_none p n k inner))))))
 
 -- each node of a row, by its place
 abbrev pub all_stay : Facts → Spot → Forest → Bool

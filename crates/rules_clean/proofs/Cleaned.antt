@@ -3,11 +3,11 @@ use Rattle.std.proofs.Common.{◌≡◌, ◌↔◌, Option}
 use Rattle.js_syntax.specs.Node.{Forest, Tree}
 use Rattle.scope_laws.specs.Place.{Around, plug}
 use Rattle.scope_counts.specs.Scopes.{unmarked}
-use Rattle.headline.specs.Clean.{CleanBut, IsDead, an_empty_statement, an_empty_block, a_silent_statement, an_unused_function, an_unused_declarator, an_unused_import, a_known_conditional, a_known_side, an_unused_operation, an_unused_list, an_indirect_choice, a_one_sided_choice, idle_parts, two_sides, an_unused_object, a_known_operation, a_known_if, a_dead_if, an_empty_if, an_empty_alternate, an_unreached_statement, an_untaken_statement, an_unrun_value, an_idle_statement, a_repeated_import, an_idle_try, an_idle_body}
+use Rattle.headline.specs.Clean.{CleanBut, IsDead, an_empty_statement, an_empty_block, a_silent_statement, an_unused_function, an_unused_declarator, a_value_of_an_unused_name, an_unused_import, a_known_conditional, a_known_side, an_unused_operation, an_unused_list, an_indirect_choice, a_one_sided_choice, idle_parts, two_sides, an_unused_object, a_known_operation, a_known_if, a_dead_if, an_empty_if, an_empty_alternate, an_unreached_statement, an_untaken_statement, an_unrun_value, an_idle_statement, a_repeated_import, an_idle_try, an_idle_body}
 use Rattle.rules.specs.DeadCode.Knows.{Knows}
 use Rattle.rules.specs.DeadCode.Quiet.{Exactly, IsQuiet}
 use Rattle.rules.specs.DeadCode.Rules.{Facts}
-use Rattle.rules.proofs.DeadCode.Alive.{no_empty_item, no_empty_block, no_silent_statement, no_idle_body, no_unused_function, no_unused_declarator}
+use Rattle.rules.proofs.DeadCode.Alive.{no_empty_item, no_empty_block, no_silent_statement, no_idle_body, no_unused_function, no_unused_declarator, no_value_stays}
 use Rattle.rules.specs.Expressions.Settled.{IsSettled}
 use Rattle.rules.proofs.Expressions.Settled.{no_conditional, no_side, no_unused, no_list, no_indirect, no_one_sided, no_sequence, no_two_sides, no_object, no_known, no_known_if, no_dead_if, no_empty_if, no_empty_alternate, no_try, no_unreached, no_untaken, no_idle, no_value}
 use Rattle.rules.specs.Imports.Quiet.{ImportsUsed}
@@ -26,6 +26,7 @@ module _ (f : Facts) (t : Forest) (known : Knows f unmarked t) (exactly : Exactl
     none_dead a x is (a_silent_statement b n below silent) = no_silent_statement f t known exactly quiet a n below is silent
     none_dead a x is (an_unused_function b pure n m name rest unkept item own free) = no_unused_function f t known exactly quiet a pure n m name rest is unkept item own free
     none_dead a x is (an_unused_declarator b n m name value unkept declares own silent free) = no_unused_declarator f t known exactly quiet a n m name value is unkept declares own silent free
+    none_dead a x is (a_value_of_an_unused_name b y z unkept stays) = no_value_stays f t known exactly quiet b y z is unkept stays
     none_dead a x is (an_unused_import b k n m name unkept named binds imported own free) = no_unused_name f t known exactly used a k n m name is unkept named binds imported own free
     none_dead a x is (a_known_conditional b y z decides) = no_conditional t settled a y z is decides
     none_dead a x is (a_known_side b y z decides) = no_side t settled a y z is decides

@@ -24,15 +24,17 @@ use Rattle.steps.specs.Allowed.SilentStatement.{a_statement}
 use Rattle.steps.specs.Allowed.UnusedFunction.{a_function, UnusedFunction, unused_function_leaves}
 use Rattle.steps.specs.Allowed.UnusedDeclarator.{a_declarator}
 use Rattle.steps.specs.Marked.Flags.{scope_has, is_sloppy_block}
-use Rattle.headline.specs.Clean.{CleanBut, IsDead, an_empty_statement, an_empty_block, a_silent_statement, an_idle_body, an_unused_function, an_unused_declarator}
+use Rattle.headline.specs.Clean.{CleanBut, IsDead, an_empty_statement, an_empty_block, a_silent_statement, an_idle_body, an_unused_function, an_unused_declarator, a_value_of_an_unused_name}
 use Rattle.js_syntax.proofs.Truth.{not_true}
-use Rattle.rules.specs.DeadCode.Rules.{Facts, Where, has_with, where_of, scope_of, is_unlisted, is_global, function_is_unused, variable_is_unused, is_silent_statement, one_goes, item_has_dead, has_dead, is_idle_body, becomes_empty}
+use Rattle.rules.specs.DeadCode.Rules.{Facts, Where, has_with, where_of, scope_of, is_unlisted, is_global, function_is_unused, variable_is_unused, is_silent_statement, one_goes, item_has_dead, has_dead, is_idle_body, becomes_empty, stated}
 use Rattle.rules.specs.DeadCode.Knows.{Knows}
 use Rattle.rules.specs.DeadCode.Quiet.{IsQuiet}
 use Rattle.rules.proofs.DeadCode.Keeping.{Known}
 use Rattle.rules.proofs.DeadCode.LaidOut.{is_laid_at, laid_here}
 use Rattle.rules.proofs.DeadCode.Bodies.{idle_empties}
 use Rattle.rules.proofs.DeadCode.Places.{to, plugged, join, plug_join, is_row, asked_to, with_is}
+use Rattle.rules.proofs.DeadCode.Stating.{states, value_stated}
+use Rattle.rules.proofs.Expressions.Becoming.{none_of}
 use Rattle.rules.proofs.DeadCode.Leaving.{Quiet, statement_silent, function_unused, declarator_unused}
 use Rattle.rules.proofs.DeadCode.Items.{IsItems, items_where, item_there, knows_there, known_laid, item_scope, declaration, in_declaration, declarator_plugged, declarator_there, declarator_with, declarator_declares}
 use Rattle.rules.proofs.DeadCode.Trimming.{Goes, a_name, goes_view}
@@ -96,6 +98,14 @@ module _ (f : Facts) where
       by : (is_silent_statement f (where_of (place_at a (goes_on rest))) x.kind x.below ≡ true) ⊎ (is_idle_body (place_at a (goes_on rest)) x.kind x.below ≡ true) → HasDead f (plug a (node x.kind x.note x.below rest))
       by (inl silent) = silent_dead a x.kind x.note x.below rest h laid silent
       by (inr idle) = dead_there f a (Some x) rest (an_idle_body (to a (first rest)) x _ (idle_empties a x x.note rest idle))
+
+  -- a declaration that becomes a statement of its value
+  stated_dead : (a : counts.Around) (x y : Tree) (rest : Forest) → Known f (plug a (node x.kind x.note x.below rest)) → stated f (place_at a (goes_on rest)) x ≡ Some y → HasDead f (plug a (node x.kind x.note x.below rest))
+  stated_dead a x y rest h is =
+      let p = place_at a (goes_on rest) in
+      let o = states f p x y is in
+      dead_there f a (Some x) rest
+      (a_value_of_an_unused_name (to a (first rest)) x y (variable_unkept f (scope_of (where_of p) o.how) o.name_note.id o.unused) (value_stated f h.marked a x y rest h.knows is))
 
   module _ (p : Place) where
     block_dead : (a : counts.Around) (x : Tree) (rest : Forest) → IsItems p a → holds_nothing x.kind x.below ≡ true → HasDead f (plug a (node x.kind x.note x.below rest))
@@ -171,6 +181,7 @@ rules_rest f marked t h clean = record {
       let laid = laid_here x.kind x.note x.below rest (known_laid f a u (known is)) in
       ap (λ b. if b then Some (record { kind = empty_statement; note = without_mark x.note; below = nothing }) else None)
       (not_so (becomes_empty f (place_at a (goes_on rest)) x.kind x.below) (λ e. clean_has_none f t clean (subst (λ v. HasDead f v) (sym is) (emptied_dead f a x rest (known is) laid e))));
+  declarations_stay = λ a x rest is. none_of (stated f (place_at a (goes_on rest)) x) (λ y e. clean_has_none f t clean (subst (λ v. HasDead f v) (sym is) (stated_dead f a x y rest (known is) e)));
 }
   where
     known : {u : Forest} → t ≡ u → Known f u

@@ -16,7 +16,7 @@ use Rattle.headline.specs.Clean.{Clean, an_unused_function}
 use Rattle.headline.proofs.Renoted.{clean_as}
 use Rattle.rules.specs.DeadCode.Knows.{Knows}
 use Rattle.rules.specs.DeadCode.Quiet.{Exactly, IsQuiet, IsQuietAt}
-use Rattle.rules.specs.DeadCode.Rules.{Facts, where_of, has_dead, emptied}
+use Rattle.rules.specs.DeadCode.Rules.{Facts, where_of, has_dead, emptied, stated}
 use Rattle.rules.proofs.DeadCode.New.{new_known}
 use Rattle.rules.proofs.DeadCode.Tried.{told_only}
 use Rattle.rules.proofs.DeadCode.Walked.{quiet_nodes}
@@ -50,8 +50,8 @@ function_parts = ((a_binding_name, (a, tt), refl, tt, refl, tt), ((refl, tt), ((
 fits : (source : SourceType) → Fits root (over (Kind.Program source) (listed Kind.Statements (function_a [] [] ∷ [])))
 fits source = ((a_program, (source, tt), refl, tt, refl, ((refl, (inr (refl, (a_function_declaration, (false, tt), refl, tt, refl, function_parts)), tt)), tt)), tt)
 
-still : {f : Facts} {p : Place} {x : Tree} → has_dead f (where_of p) x.below ≡ false → emptied f p x ≡ None → IsQuietAt f p x
-still stays statement = record { list = λ is. stays; statement = statement }
+still : {f : Facts} {p : Place} {x : Tree} → has_dead f (where_of p) x.below ≡ false → emptied f p x ≡ None → stated f p x ≡ None → IsQuietAt f p x
+still stays statement declaration = record { list = λ is. stays; statement = statement; declaration = declaration }
 
 settles : {p : Place} {x : Tree} → conditional_becomes (spot_of p) x.kind x.below ≡ None → logical_becomes (spot_of p) x.kind x.below ≡ None → unused_becomes (spot_of p) x.kind x.below ≡ None
     → unused_list_becomes (spot_of p) x.note x.kind x.below ≡ None → indirect_becomes (spot_of p) x.note x.kind x.below ≡ None
@@ -72,7 +72,7 @@ script_is_known_exactly = record { flags = told_only known_of_the_script.scoping
 script_is_quiet : IsQuiet known_of_the_script a_function_of_a_script
 script_is_quiet =
     quiet_nodes known_of_the_script a_function_of_a_script
-    (still refl refl, (still refl refl, (still refl refl, (still refl refl, tt, (still refl refl, tt, (still refl refl, (still refl refl, tt, tt), tt))), tt), tt), tt)
+    (still refl refl refl, (still refl refl refl, (still refl refl refl, (still refl refl refl, tt, (still refl refl refl, tt, (still refl refl refl, (still refl refl refl, tt, tt), tt))), tt), tt), tt)
 
 script_uses_imports : ImportsUsed known_of_the_script a_function_of_a_script
 script_uses_imports = imports_used known_of_the_script a_function_of_a_script ((refl, refl, refl), ((refl, refl, refl), ((refl, refl, refl), ((refl, refl, refl), tt, ((refl, refl, refl), tt, ((refl, refl, refl), ((refl, refl, refl), tt, tt), tt))), tt), tt), tt)
@@ -97,7 +97,7 @@ pub module_is_quiet : IsQuiet taken_for_exported a_function_of_a_module
 module_is_quiet =
     quiet_nodes taken_for_exported a_function_of_a_module
     -- the program, its list and the function, with its name, its parameters and its body
-    (still refl refl, (still refl refl, (still refl refl, (still refl refl, tt, (still refl refl, tt, (still refl refl, (still refl refl, tt, tt), tt))), tt), tt), tt)
+    (still refl refl refl, (still refl refl refl, (still refl refl refl, (still refl refl refl, tt, (still refl refl refl, tt, (still refl refl refl, (still refl refl refl, tt, tt), tt))), tt), tt), tt)
 
 pub module_is_dead : Clean a_function_of_a_module → ⊥
 module_is_dead clean =
