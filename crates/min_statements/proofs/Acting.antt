@@ -187,7 +187,7 @@ pub as_tree_edits : {t u : Forest} → (Edits Edit) t u → TreeEdits t u
 as_tree_edits {t = t} no_edit = no_tree_edit t
 as_tree_edits {t = t} (one_edit {u = v} e more) = one_tree_edit t v _ e (as_tree_edits more)
 
-one : {t u : Forest} → Edit t u → TreeEdits t u
+pub one : {t u : Forest} → Edit t u → TreeEdits t u
 one {t = t} {u = u} e = one_tree_edit t u u e (no_tree_edit u)
 
 -- ---- moves

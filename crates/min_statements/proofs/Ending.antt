@@ -1,4 +1,5 @@
--- What the hook of statements does: a silent one, or one that does nothing as a branch or a body, becomes empty, or else an `if` what is
+-- What the hook of statements does: a silent one, or one that does nothing as a branch or a body, becomes empty, or else a declaration of a
+-- name that nothing uses a statement of its value, or else an `if` what is
 -- known of it, or its test, or it loses an empty alternate or what never runs, or else names leave an import.
 use Rattle.std.proofs.Common.{◌≡◌, ◌∙◌, Bool, true, false, ◌||◌, Option, Some, None, is_some, if◌then◌else◌, refl, sym, ap, subst, true≢false}
 use Rattle.js_syntax.specs.Node.{Forest, Tree}
@@ -8,14 +9,14 @@ use Rattle.min_context.specs.Seen.{Seen}
 use Rattle.min_traverse.specs.Lawful.{Rule, Stays, Does, or_same, or_else}
 use Rattle.min_traverse.specs.Moves.{Holds, IsHere, NodeMoves}
 use Rattle.rules.specs.DeadCode.Before.{before}
-use Rattle.rules.specs.DeadCode.Rules.{where_of, becomes_empty}
+use Rattle.rules.specs.DeadCode.Rules.{where_of, becomes_empty, becomes_stated}
 use Rattle.rules.specs.Expressions.Ifs.{if_becomes}
 use Rattle.rules.specs.Expressions.EmptyIfs.{test_left}
 use Rattle.rules.specs.Expressions.EmptyAlternates.{is_last, alternate_left}
 use Rattle.rules.specs.Expressions.Untaken.{if_left, if_ends, at_if_end}
 use Rattle.rules.specs.Imports.Rules.{pruned}
 use Rattle.rules.proofs.Expressions.Folding.{ifs_end}
-use Rattle.min_statements.specs.Acts.{empty, prune}
+use Rattle.min_statements.specs.Acts.{empty, state, prune}
 use Rattle.min_statements.specs.Own.{AnyEdit, Own, Found, statement_changes}
 use Rattle.min_statements.specs.Walker.{Names, facts_of}
 use Rattle.min_statements.proofs.Acting.{asked_true}
@@ -26,6 +27,7 @@ use Rattle.min_statements.proofs.Tests.{test_calls}
 use Rattle.min_statements.proofs.Branches.{if_calls}
 use Rattle.min_statements.proofs.Thinning.{left_calls}
 use Rattle.min_statements.proofs.Pruning.{prune_moves}
+use Rattle.min_statements.proofs.Stating.{state_moves}
 
 -- a call that did nothing
 pub record Stayed (c : Seen) (x : Tree) (d : Seen) (y : Tree) : Type 0 where
@@ -84,12 +86,27 @@ if_calls_stay c a x y r here found = by one refl
     by (Some z) is = if_calls (before a r) x y (is ∙ sym (ap (λ o. or_else (or_else (or_else o two) three) four) is) ∙ found)
     by None is = by_test two refl (sym (ap (λ o. or_else (or_else (or_else o two) three) four) is) ∙ found)
 
-module _ (stays : Stays AnyEdit) (names : Names) where
-  pub fold_moves : {c k d : Seen} {x z y : Tree} {answer : Bool} → Does (empty names) c x false k z → Does at_if_end k z answer d y → NodeMoves Names AnyEdit (Holds Own) names c x names d y
-  fold_moves first second = rule_moves stays names at_if_end (ifs_end AnyEdit (λ o t u e. e)) if_calls_stay (after_nothing (empty names) at_if_end first second)
+-- four calls one after another
+module _ (names : Names) where
+  pub after_empty : {c k d : Seen} {x z y : Tree} {answer : Bool} (next : Rule) → Does (empty names) c x false k z → Does next k z answer d y → Does next c x answer d y
+  after_empty next first second = after_nothing (empty names) next first second
 
-  pub statement_moves : {c k l d : Seen} {x z v y : Tree} {answer : Bool} → Does (empty names) c x false k z → Does at_if_end k z false l v → Does (prune names) l v answer d y → NodeMoves Names AnyEdit (Holds Own) names c x names d y
-  statement_moves first second third = prune_moves stays names (after_nothing (empty names) (prune names) first (after_nothing at_if_end (prune names) second third))
+  pub after_state : {c k l d : Seen} {x z v y : Tree} {answer : Bool} (next : Rule) → Does (empty names) c x false k z → Does (state names) k z false l v → Does next l v answer d y → Does next c x answer d y
+  after_state next first second third = after_nothing (empty names) next first (after_nothing (state names) next second third)
+
+  pub after_fold : {c k l m d : Seen} {x z v w y : Tree} {answer : Bool} (next : Rule) → Does (empty names) c x false k z → Does (state names) k z false l v → Does at_if_end l v false m w → Does next m w answer d y → Does next c x answer d y
+  after_fold next first second third fourth = after_state next first second (after_nothing at_if_end next third fourth)
+
+module _ (stays : Stays AnyEdit) (names : Names) where
+  pub stating_moves : {c k d : Seen} {x z y : Tree} {answer : Bool} → Does (empty names) c x false k z → Does (state names) k z answer d y → NodeMoves Names AnyEdit (Holds Own) names c x names d y
+  stating_moves first second = state_moves stays names (after_empty names (state names) first second)
+
+  pub fold_moves : {c k l d : Seen} {x z v y : Tree} {answer : Bool} → Does (empty names) c x false k z → Does (state names) k z false l v → Does at_if_end l v answer d y → NodeMoves Names AnyEdit (Holds Own) names c x names d y
+  fold_moves first second third = rule_moves stays names at_if_end (ifs_end AnyEdit (λ o t u e. e)) if_calls_stay (after_state names at_if_end first second third)
+
+  pub statement_moves : {c k l m d : Seen} {x z v w y : Tree} {answer : Bool} → Does (empty names) c x false k z → Does (state names) k z false l v → Does at_if_end l v false m w → Does (prune names) m w answer d y
+      → NodeMoves Names AnyEdit (Holds Own) names c x names d y
+  statement_moves first second third fourth = prune_moves stays names (after_fold names (prune names) first second third fourth)
 
 -- nothing becomes of it
 abbrev FoundNothing : Names → Seen → Tree → Seen → Type 0
@@ -99,18 +116,24 @@ module _ (names : Names) {d : Seen} (quiet : d.requested ≡ false) where
   pub emptied_visits : {c : Seen} {x y : Tree} → Does (empty names) c x true d y → FoundNothing names c x d
   emptied_visits does = done_asks (empty names) does quiet
 
-  pub fold_visits : {c k : Seen} {x z y : Tree} → Does (empty names) c x false k z → Does at_if_end k z true d y → FoundNothing names c x d
-  fold_visits first second = done_asks at_if_end (after_nothing (empty names) at_if_end first second) quiet
+  pub stated_visits : {c k : Seen} {x z y : Tree} → Does (empty names) c x false k z → Does (state names) k z true d y → FoundNothing names c x d
+  stated_visits first second = done_asks (state names) (after_empty names (state names) first second) quiet
 
-  pub statement_visits : {c k l : Seen} {x z v y : Tree} {answer : Bool} → Does (empty names) c x false k z → Does at_if_end k z false l v → Does (prune names) l v answer d y → FoundNothing names c x d
-  statement_visits {c = c} {x = x} first second third =
+  pub fold_visits : {c k l : Seen} {x z v y : Tree} → Does (empty names) c x false k z → Does (state names) k z false l v → Does at_if_end l v true d y → FoundNothing names c x d
+  fold_visits first second third = done_asks at_if_end (after_state names at_if_end first second third) quiet
+
+  pub statement_visits : {c k l m : Seen} {x z v w y : Tree} {answer : Bool} → Does (empty names) c x false k z → Does (state names) k z false l v → Does at_if_end l v false m w → Does (prune names) m w answer d y → FoundNothing names c x d
+  statement_visits {c = c} {x = x} first second third fourth =
       let f = facts_of names c in
-      let w = where_of c.place in
-      let folds = after_nothing (empty names) at_if_end first second in
-      let found = rule_visits names quiet (prune names) (after_nothing (empty names) (prune names) first (after_nothing at_if_end (prune names) second third)) in
+      let at = where_of c.place in
+      let states = after_empty names (state names) first second in
+      let folds = after_state names at_if_end first second third in
+      let found = rule_visits names quiet (prune names) (after_fold names (prune names) first second third fourth) in
       let stays = none_emptied (becomes_empty f c.place x.kind x.below) _ first.answers in
+      let declares = none_emptied (becomes_stated f c.place x.kind x.below) _ states.answers in
       record {
         names_same = found.names_same;
         context_same = found.context_same;
-        none = ap (λ b. b || is_some (if_ends (is_last c.place) x.note x.kind x.below) || is_some (pruned f w x)) stays ∙ ap (λ b. b || is_some (pruned f w x)) (sym folds.answers) ∙ found.none;
+        none = ap (λ b. b || becomes_stated f c.place x.kind x.below || is_some (if_ends (is_last c.place) x.note x.kind x.below) || is_some (pruned f at x)) stays
+            ∙ ap (λ b. b || is_some (if_ends (is_last c.place) x.note x.kind x.below) || is_some (pruned f at x)) declares ∙ ap (λ b. b || is_some (pruned f at x)) (sym folds.answers) ∙ found.none;
       }

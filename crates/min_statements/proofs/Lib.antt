@@ -10,6 +10,7 @@ mod Branches
 mod Tests
 mod Alternates
 mod Pruning
+mod Stating
 mod Ending
 mod Repeating
 mod Merging

@@ -1,10 +1,11 @@
 -- What is asked of a name by its symbol, and of what stands beside it.
-use Rattle.std.proofs.Common.{◌≡◌, ◌≤◌, ◌&&◌, List, [], ◌∷◌, length, false, Option, Some, None, refl, arith}
+use Rattle.std.proofs.Common.{◌≡◌, ◌≤◌, ◌&&◌, ℕ, List, [], ◌∷◌, length, false, Option, Some, None, refl, arith}
 use Rattle.js_syntax.specs.declared.node_kind.NodeKind.{NodeKind as Kind}
 use Rattle.js_syntax.specs.declared.node_kind.NodeKind.TheVariants.{VariableDeclarator as variable_declarator, BindingName as binding_name, Specifiers as specifiers}
 use Rattle.js_syntax.specs.declared.kind.VariableKind.{VariableKind}
-use Rattle.js_syntax.specs.Node.{Forest, Tree, Note, nothing, node, row}
-use Rattle.rules.specs.DeadCode.Rules.{Facts, Where, variable_is_unused, scope_of, is_quiet, declarator_goes, function_is_unused, function_goes}
+use Rattle.js_syntax.specs.Node.{Forest, Tree, Note, nothing, node, absent, row}
+use Rattle.steps.specs.Allowed.Arranged.{is_nothing}
+use Rattle.rules.specs.DeadCode.Rules.{Facts, Where, variable_is_unused, scope_of, is_quiet, declarator_goes, function_is_unused, function_goes, name_is_unused}
 use Rattle.rules.specs.Imports.Rules.{name_goes, import_has_unused}
 use Rattle.min_statements.specs.Names.{symbol_of}
 
@@ -15,6 +16,15 @@ declares f w how k n inner value = refl
 pub names : (f : Facts) (w : Where) (k : Kind) (n : Note) (inner rest : Forest) → function_goes f w (node k n inner rest) ≡ function_is_unused f w (symbol_of k n)
 names f w (binding_name x) n inner rest = refl
 names f w k n inner rest = refl
+
+-- the name of a declarator
+pub declared : (f : Facts) (scope : ℕ) (k : Kind) (n : Note) (below : Forest) → name_is_unused f scope k n below ≡ is_nothing below && variable_is_unused f scope (symbol_of k n)
+declared f scope (binding_name x) n nothing = refl
+declared f scope (binding_name x) n (absent rest) = refl
+declared f scope (binding_name x) n (node k m a rest) = refl
+declared f scope k n nothing = refl
+declared f scope k n (absent rest) = refl
+declared f scope k n (node l m a rest) = refl
 
 -- the name of an import, which nothing stands beside or below
 pub imported : (f : Facts) (w : Where) (k : Kind) (n : Note) → name_goes f w (node k n nothing nothing) ≡ variable_is_unused f w.scope (symbol_of k n)

@@ -2,13 +2,16 @@
 use Rattle.std.proofs.Common.{◌≡◌, ◌∙◌, List, [], ◌∷◌, ℕ, Bool, false, true, not, ◌||◌, ◌&&◌, if◌then◌else◌, Option, Some, None, is_some, refl, sym, ap, subst, true≢false}
 use Rattle.js_syntax.specs.Class.{root}
 use Rattle.js_syntax.specs.declared.node_kind.NodeKind.{NodeKind as Kind}
-use Rattle.js_syntax.specs.declared.node_kind.NodeKind.TheVariants.{ExpressionStatement as expression_statement, EmptyStatement as empty_statement, BlockStatement as block_statement, LabeledStatement as labeled_statement, IfStatement as if_statement, TryStatement as try_statement, WhileStatement as while_statement, ForStatement as for_statement, ImportDeclaration as import_declaration, ArrayExpression as array_expression, TemplateLiteral as template_literal, ObjectExpression as object_expression, UnaryExpression as unary_expression, BinaryExpression as binary_expression, SequenceExpression as sequence_expression, ConditionalExpression as conditional_expression, LogicalExpression as logical_expression}
+use Rattle.js_syntax.specs.declared.node_kind.NodeKind.TheVariants.{ExpressionStatement as expression_statement, EmptyStatement as empty_statement, BlockStatement as block_statement, LabeledStatement as labeled_statement, IfStatement as if_statement, TryStatement as try_statement, WhileStatement as while_statement, ForStatement as for_statement, ImportDeclaration as import_declaration, VariableDeclaration as variable_declaration, ArrayExpression as array_expression, TemplateLiteral as template_literal, ObjectExpression as object_expression, UnaryExpression as unary_expression, BinaryExpression as binary_expression, SequenceExpression as sequence_expression, ConditionalExpression as conditional_expression, LogicalExpression as logical_expression}
 use Rattle.json_shape.specs.Shape.{Fits}
 use Rattle.min_pass.specs.Pass.{unmarked}
 use Rattle.js_syntax.specs.Node.{Forest, Tree, Note, nothing, node, absent, alone, forest_of}
 use Rattle.min_context.specs.Above.{above_of}
 use Rattle.min_context.specs.Ancestry.{nearest}
 use Rattle.min_context.specs.declared.ancestor.Ancestor.{Ancestor}
+use Rattle.min_context.specs.declared.ancestor.Ancestor.TheVariants.{Field as field}
+use Rattle.min_context.specs.declared.ancestor.Parent.TheVariants as parent
+use Rattle.js_syntax.specs.declared.kind.VariableKind.{VariableKind}
 use Rattle.min_context.specs.Place.{Place, Spot, goes_on, place_of, next_of, below, outside, top}
 use Rattle.min_context.specs.Seen.{Seen}
 use Rattle.min_traverse.specs.Slot.{outer_slot, middle_slot, inner_slot, enter_outer, enter_middle, enter_inner, exit_outer, exit_middle, exit_inner}
@@ -19,7 +22,7 @@ use Rattle.min_traverse.specs.declared.slot.Middle.{Middle}
 use Rattle.min_traverse.specs.declared.slot.Middle.TheVariants as middle
 use Rattle.min_traverse.specs.declared.slot.Inner.{Inner}
 use Rattle.min_traverse.specs.declared.slot.Inner.TheVariants as inner
-use Rattle.rules.specs.DeadCode.Rules.{Facts, Where, where_of, has_dead, is_body, becomes_empty}
+use Rattle.rules.specs.DeadCode.Rules.{Facts, Where, where_of, scope_of, has_dead, is_body, becomes_empty, is_item_under, is_item, value_of_list_stays, becomes_stated, value_below}
 use Rattle.rules.specs.Expressions.Jumps.{has_inert, left_if, list_reached}
 use Rattle.min_statements.specs.Acts.{has_gone, list_changes}
 use Rattle.min_statements.specs.Own.{Visited, is_written, statement_changes}
@@ -218,16 +221,28 @@ neither false b e = (refl, e)
 abbrev Unchanged : Facts → Place → Note → Kind → Forest → Type 0
 Unchanged f p n k b = is_always_statement k ≡ true → statement_changes f p (record { kind = k; note = n; below = b }) ≡ false
 
-module _ (f : Facts) (p : Place) (n : Note) where
+module _ (f : Facts) (p : Place) (n : Note) (k : Kind) (b : Forest) (e : statement_changes f p (record { kind = k; note = n; below = b }) ≡ false) where
+  abbrev empties : Bool
+  empties = becomes_empty f p k b
+
+  abbrev declares : Bool
+  declares = becomes_stated f p k b
+
+  abbrev ends : Bool
+  ends = is_some (if_ends (is_last p) n k b)
+
+  abbrev prunes : Bool
+  prunes = is_some (pruned f (where_of p) (record { kind = k; note = n; below = b }))
+
   -- what a statement that didn't change did neither
-  none_goes_empty : (k : Kind) (b : Forest) → statement_changes f p (record { kind = k; note = n; below = b }) ≡ false → becomes_empty f p k b ≡ false
-  none_goes_empty k b e = (neither (becomes_empty f p k b) (is_some (if_ends (is_last p) n k b)) (neither (becomes_empty f p k b || is_some (if_ends (is_last p) n k b)) (is_some (pruned f (where_of p) (record { kind = k; note = n; below = b }))) e).0).0
+  all_none : (empties || declares || ends ≡ false) × (prunes ≡ false)
+  all_none = neither (empties || declares || ends) prunes e
 
-  none_ends : (k : Kind) (b : Forest) → statement_changes f p (record { kind = k; note = n; below = b }) ≡ false → is_some (if_ends (is_last p) n k b) ≡ false
-  none_ends k b e = (neither (becomes_empty f p k b) (is_some (if_ends (is_last p) n k b)) (neither (becomes_empty f p k b || is_some (if_ends (is_last p) n k b)) (is_some (pruned f (where_of p) (record { kind = k; note = n; below = b }))) e).0).1
+  three_none : (empties || declares ≡ false) × (ends ≡ false)
+  three_none = neither (empties || declares) ends all_none.0
 
-  none_pruned : (k : Kind) (b : Forest) → statement_changes f p (record { kind = k; note = n; below = b }) ≡ false → is_some (pruned f (where_of p) (record { kind = k; note = n; below = b })) ≡ false
-  none_pruned k b e = (neither (becomes_empty f p k b || is_some (if_ends (is_last p) n k b)) (is_some (pruned f (where_of p) (record { kind = k; note = n; below = b }))) e).1
+  two_none : (empties ≡ false) × (declares ≡ false)
+  two_none = neither empties declares three_none.0
 
 -- other kinds never do nothing
 never_idle : (b : Bool) → b && false ≡ false
@@ -235,13 +250,26 @@ never_idle true = refl
 never_idle false = refl
 
 not_emptied : (f : Facts) (p : Place) (n : Note) (k : Kind) (b : Forest) → Unchanged f p n k b → becomes_empty f p k b ≡ false
-not_emptied f p n expression_statement b h = none_goes_empty f p n expression_statement b (h refl)
-not_emptied f p n block_statement b h = none_goes_empty f p n block_statement b (h refl)
-not_emptied f p n (labeled_statement label) b h = none_goes_empty f p n (labeled_statement label) b (h refl)
-not_emptied f p n try_statement b h = none_goes_empty f p n try_statement b (h refl)
-not_emptied f p n while_statement b h = none_goes_empty f p n while_statement b (h refl)
-not_emptied f p n for_statement b h = none_goes_empty f p n for_statement b (h refl)
+not_emptied f p n expression_statement b h = (two_none f p n expression_statement b (h refl)).0
+not_emptied f p n block_statement b h = (two_none f p n block_statement b (h refl)).0
+not_emptied f p n (labeled_statement label) b h = (two_none f p n (labeled_statement label) b (h refl)).0
+not_emptied f p n try_statement b h = (two_none f p n try_statement b (h refl)).0
+not_emptied f p n while_statement b h = (two_none f p n while_statement b (h refl)).0
+not_emptied f p n for_statement b h = (two_none f p n for_statement b (h refl)).0
 not_emptied f p n k b h = never_idle (is_body p)
+
+-- an item of a list of statements has its own slot
+item_slot : (a : Ancestor) (how : VariableKind) → is_item_under a ≡ true → outer_slot a (variable_declaration how) ≡ outer.Statement
+item_slot (field parent.Statements at) how e = refl
+item_slot a how e = absurd (true≢false (sym e))
+
+not_stated : (f : Facts) (p : Place) (n : Note) (k : Kind) (b : Forest) → (outer_slot (above_place p) k ≡ outer.Statement → statement_changes f p (record { kind = k; note = n; below = b }) ≡ false) → becomes_stated f p k b ≡ false
+not_stated f p n (variable_declaration how) b h = by (is_item p) refl
+  where
+    by : (item : Bool) → is_item p ≡ item → becomes_stated f p (variable_declaration how) b ≡ false
+    by true e = (two_none f p n (variable_declaration how) b (h (item_slot (above_place p) how e))).1
+    by false e = ap (λ i. i && (not (where_of p).in_with && value_of_list_stays f (scope_of (where_of p) how) b)) e
+not_stated f p n k b h = refl
 
 none_is : (o : Option Tree) → is_some o ≡ false → o ≡ None
 none_is None e = refl
@@ -276,24 +304,24 @@ each_none p n k b e =
     record { becomes = first_none one (test_left n k b) first_two; tested = second_none one (test_left n k b) first_two; alternate = second_none two (alternate_left (is_last p) n k b) firsts; left = second_none three (if_left n k b) e }
 
 not_tested : (f : Facts) (p : Place) (n : Note) (k : Kind) (b : Forest) → Unchanged f p n k b → test_left n k b ≡ None
-not_tested f p n if_statement b h = (each_none p n if_statement b (none_ends f p n if_statement b (h refl))).tested
+not_tested f p n if_statement b h = (each_none p n if_statement b (three_none f p n if_statement b (h refl)).1).tested
 not_tested f p n k b h = refl
 
 not_alternate : (f : Facts) (p : Place) (n : Note) (k : Kind) (b : Forest) → Unchanged f p n k b → alternate_left (is_last p) n k b ≡ None
-not_alternate f p n if_statement b h = (each_none p n if_statement b (none_ends f p n if_statement b (h refl))).alternate
+not_alternate f p n if_statement b h = (each_none p n if_statement b (three_none f p n if_statement b (h refl)).1).alternate
 not_alternate f p n k b h = refl
 
 not_known : (f : Facts) (p : Place) (n : Note) (k : Kind) (b : Forest) → Unchanged f p n k b → if_becomes n k b ≡ None
-not_known f p n if_statement b h = (each_none p n if_statement b (none_ends f p n if_statement b (h refl))).becomes
-not_known f p n try_statement b h = (each_none p n try_statement b (none_ends f p n try_statement b (h refl))).becomes
+not_known f p n if_statement b h = (each_none p n if_statement b (three_none f p n if_statement b (h refl)).1).becomes
+not_known f p n try_statement b h = (each_none p n try_statement b (three_none f p n try_statement b (h refl)).1).becomes
 not_known f p n k b h = refl
 
 not_left : (f : Facts) (p : Place) (n : Note) (k : Kind) (b : Forest) → Unchanged f p n k b → if_left n k b ≡ None
-not_left f p n if_statement b h = (each_none p n if_statement b (none_ends f p n if_statement b (h refl))).left
+not_left f p n if_statement b h = (each_none p n if_statement b (three_none f p n if_statement b (h refl)).1).left
 not_left f p n k b h = refl
 
 none_unused : (f : Facts) (p : Place) (n : Note) (k : Kind) (b : Forest) → Unchanged f p n k b → (let x : Tree = record { kind = k; note = n; below = b } in pruned f (where_of p) x ≡ None)
-none_unused f p n (import_declaration source) b h = none_is (pruned f (where_of p) (record { kind = import_declaration source; note = n; below = b })) (none_pruned f p n (import_declaration source) b (h refl))
+none_unused f p n (import_declaration source) b h = none_is (pruned f (where_of p) (record { kind = import_declaration source; note = n; below = b })) (all_none f p n (import_declaration source) b (h refl)).1
 none_unused f p n k b h = refl
 
 -- no import leaves a list
@@ -331,6 +359,7 @@ quiet_at : (f : Facts) (p : Place) (x : Tree) → IsAlive f p x → HasSlots p x
 quiet_at f p x h slots = record {
   list = λ e. (neither (has_inert false x.below) (has_dead f (where_of p) x.below) (neither (has_gone f (where_of p) x.below) (has_repeated [] x.below) (h.list (slots.list e))).0).1;
   statement = none_left (record { kind = empty_statement; note = unmarked x.note; below = nothing }) (not_emptied f p x.note x.kind x.below (λ e. h.statement (slots.statement e)));
+  declaration = none_left (record { kind = expression_statement; note = unmarked x.note; below = value_below x.below }) (not_stated f p x.note x.kind x.below h.statement);
 }
 
 -- the last two come to nothing, and what is tried before

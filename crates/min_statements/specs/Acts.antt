@@ -3,7 +3,7 @@ use Rattle.std.specs.Prelude.{[], Bool, false, ◌||◌, Option, Some, None, if�
 use Rattle.js_syntax.specs.Node.{Forest, Tree}
 use Rattle.min_context.specs.Seen.{Seen}
 use Rattle.min_traverse.specs.Lawful.{Rule}
-use Rattle.rules.specs.DeadCode.Rules.{Facts, Where, where_of, has_dead, trimmed, emptied}
+use Rattle.rules.specs.DeadCode.Rules.{Facts, Where, where_of, has_dead, trimmed, emptied, stated}
 use Rattle.rules.specs.Expressions.Jumps.{has_inert, emptied_behind}
 use Rattle.rules.specs.Imports.Merged.{come_together}
 use Rattle.rules.specs.Imports.Repeated.{has_repeated, asked_once}
@@ -35,6 +35,10 @@ list_changes f w t = has_gone f w t || has_repeated [] t
 -- a silent statement becomes empty, and so does one that does nothing as a branch or a body
 abbrev pub empty : Names → Seen → Tree → Option Tree
 empty names c x = emptied (facts_of names c) c.place x
+
+-- a declaration of a name that nothing uses becomes a statement of its value
+abbrev pub state : Names → Seen → Tree → Option Tree
+state names c x = stated (facts_of names c) c.place x
 
 -- of an import, the names leave that nobody uses
 abbrev pub prune : Names → Seen → Tree → Option Tree

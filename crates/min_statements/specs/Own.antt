@@ -15,7 +15,7 @@ use Rattle.rules.specs.Told.Parts.{CallsToldOnly, NamesToldOnly}
 use Rattle.js_effects.specs.Silence.{is_marked}
 use Rattle.rules.specs.DeadCode.Quiet.{IsExported}
 use Rattle.rules.specs.DeadCode.Knows.{TellsBound, TellsExported}
-use Rattle.rules.specs.DeadCode.Rules.{Facts, where_of, becomes_empty}
+use Rattle.rules.specs.DeadCode.Rules.{Facts, where_of, becomes_empty, becomes_stated}
 use Rattle.rules.specs.Expressions.Known.{at_expression_end}
 use Rattle.rules.specs.Expressions.EmptyAlternates.{is_last}
 use Rattle.rules.specs.Expressions.Untaken.{if_ends}
@@ -57,9 +57,9 @@ is_written hook.ExitExpression = true
 is_written hook.ExitProgram = true
 is_written h = false
 
--- a statement becomes empty, or comes to a branch of it or to its test, or loses an alternate or what goes of a branch, or names leave it
+-- a statement becomes empty, or one of its value, or comes to a branch of it or to its test, or loses an alternate or what goes of a branch, or names leave it
 abbrev pub statement_changes : Facts → Place → Tree → Bool
-statement_changes f p x = becomes_empty f p x.kind x.below || is_some (if_ends (is_last p) x.note x.kind x.below) || is_some (pruned f (where_of p) x)
+statement_changes f p x = becomes_empty f p x.kind x.below || becomes_stated f p x.kind x.below || is_some (if_ends (is_last p) x.note x.kind x.below) || is_some (pruned f (where_of p) x)
 
 -- nothing changed, and of what the hook looks at nothing goes or becomes another
 pub record Found (dead : Bool) (names : Names) (c : Seen) (later : Names) (d : Seen) : Type 0 where

@@ -1,7 +1,7 @@
 // A declaration of a name that nothing uses becomes a statement of its value.
-ghost use Rattle.std.specs.Prelude.{◌≡◌, [], ◌∷◌, ◌&&◌, not, Some, true};
+ghost use Rattle.std.specs.Prelude.{◌≡◌, ◌&&◌, not, true};
 ghost use Rattle.js_syntax.specs.declared.node_kind.NodeKind.TheVariants.{ExpressionStatement as expression_statement};
-ghost use Rattle.js_syntax.specs.Node.{row, forest_of};
+ghost use Rattle.js_syntax.specs.Node.{row};
 ghost use Rattle.min_context.specs.Edited.{Edited};
 ghost use Rattle.min_pass.specs.Pass.{unmarked};
 ghost use Rattle.min_traverse.specs.Lawful.{Does};
@@ -43,16 +43,11 @@ fn may_be_stated(value: &Node) -> bool
 }
 
 // Nothing stands below a name.
+#[tactic(auto, using(crate::proofs::Named::declared))]
 fn name_is_unused(facts: &Facts, scope: u32, name: &Node) -> bool
-    ensures { result ≡ name_is_unused facts.now scope name.now }
+    ensures { result ≡ rules.name_is_unused facts.now scope name.now.kind name.now.note name.now.below }
 {
     is_nothing(name.children()) && variable_is_unused(facts, scope, symbol_of(name))
-}
-
-fn may_part(facts: &Facts, scope: u32, name: &Node, value: &Node) -> bool
-    ensures { result ≡ rules.value_stays facts.now scope (row (Some name.now ∷ Some value.now ∷ [])) }
-{
-    name_is_unused(facts, scope, name) && may_be_stated(value)
 }
 
 // Of what lies below a declarator.
@@ -60,7 +55,7 @@ fn value_stays(facts: &Facts, scope: u32, parts: &[Option<Node>]) -> bool
     ensures { result ≡ rules.value_stays facts.now scope (row parts.now) }
 {
     match parts {
-        [Some(name), Some(value)] => may_part(facts, scope, name, value),
+        [Some(name), Some(value)] => name_is_unused(facts, scope, name) && may_be_stated(value),
         [] => false,
         [None, ..] => false,
         [Some(_)] => false,
@@ -71,7 +66,7 @@ fn value_stays(facts: &Facts, scope: u32, parts: &[Option<Node>]) -> bool
 }
 
 fn value_of_stays(facts: &Facts, scope: u32, declarator: &Node) -> bool
-    ensures { result ≡ rules.value_of_one_stays facts.now scope (forest_of declarator.now) }
+    ensures { result ≡ rules.value_of_stays facts.now scope declarator.now.kind declarator.now.below }
 {
     match declarator.kind() {
         NodeKind::VariableDeclarator => value_stays(facts, scope, declarator.children()),
@@ -92,7 +87,7 @@ fn value_of_one_stays(facts: &Facts, scope: u32, declarators: &[Option<Node>]) -
 }
 
 fn value_in_stays(facts: &Facts, scope: u32, list: &Node) -> bool
-    ensures { result ≡ rules.value_of_list_stays facts.now scope (forest_of list.now) }
+    ensures { result ≡ rules.value_in_stays facts.now scope list.now.kind list.now.below }
 {
     match list.kind() {
         NodeKind::Declarators => value_of_one_stays(facts, scope, list.children()),

@@ -28,7 +28,7 @@ use Rattle.steps.specs.Allowed.UnusedDeclaration.{a_declaration}
 use Rattle.steps.specs.Allowed.ValueStays.{may_be_stated, declaration_of_value, ValueStays, value_is_stated}
 use Rattle.steps.specs.Marked.Flags.{declares_in, stand}
 use Rattle.rules.specs.DeadCode.Rules as rules
-use Rattle.rules.specs.DeadCode.Rules.{Facts, where_of, has_with, scope_of, variable_is_unused, is_item_under, is_item, value_of_one_stays, value_of_list_stays, becomes_stated, value_below, stated}
+use Rattle.rules.specs.DeadCode.Rules.{Facts, where_of, has_with, scope_of, variable_is_unused, is_item_under, is_item, name_is_unused, value_of_stays, value_of_one_stays, value_in_stays, value_of_list_stays, becomes_stated, value_below, stated}
 use Rattle.rules.specs.DeadCode.Knows.{Knows}
 use Rattle.rules.proofs.DeadCode.LaidOut.{fits_laid}
 use Rattle.rules.proofs.DeadCode.Places.{to, plugged, asked_to, with_is}
@@ -67,21 +67,41 @@ record Declarator (f : Facts) (scope : ℕ) (t : Forest) : Type 0 where
   unused : variable_is_unused f scope name_note.id ≡ true
   may : may_be_stated kind below ≡ true
 
+-- the name of a declarator
+record Name (f : Facts) (scope : ℕ) (t : Kind) (n : Note) (a : Forest) : Type 0 where
+  name : List ℕ
+  is : (rest : Forest) → node (binding_name name) n nothing rest ≡ node t n a rest
+  unused : variable_is_unused f scope n.id ≡ true
+
+one_name : (f : Facts) (scope : ℕ) (t : Kind) (n : Note) (a : Forest) → name_is_unused f scope t n a ≡ true → Name f scope t n a
+one_name f scope (binding_name x) n nothing e = record { name = x; is = λ rest. refl; unused = e }
+one_name f scope t n a e = wrong e
+
 declarator_parts : (f : Facts) (scope : ℕ) (l : Note) (parts : Forest) → rules.value_stays f scope parts ≡ true → Declarator f scope (alone variable_declarator l parts)
-declarator_parts f scope l (node (binding_name x) j nothing (node k i b nothing)) e =
-    let both = and_parts (variable_is_unused f scope j.id) (may_be_stated k b) e in
-    record { declarator_note = l; name_note = j; value_note = i; name = x; kind = k; below = b; is = refl; unused = both.0; may = both.1 }
+declarator_parts f scope l (node t n a (node k i b nothing)) e =
+    let both = and_parts (name_is_unused f scope t n a) (may_be_stated k b) e in
+    let o = one_name f scope t n a both.0 in
+    record { declarator_note = l; name_note = n; value_note = i; name = o.name; kind = k; below = b; is = ap (alone variable_declarator l) (o.is (alone k i b)); unused = o.unused; may = both.1 }
 declarator_parts f scope l parts e = wrong e
 
+declarator_of : (f : Facts) (scope : ℕ) (k : Kind) (l : Note) (parts : Forest) → value_of_stays f scope k parts ≡ true → Declarator f scope (alone k l parts)
+declarator_of f scope variable_declarator l parts e = declarator_parts f scope l parts e
+declarator_of f scope k l parts e = wrong e
+
 one_declarator : (f : Facts) (scope : ℕ) (ds : Forest) → value_of_one_stays f scope ds ≡ true → Declarator f scope ds
-one_declarator f scope (node variable_declarator l parts nothing) e = declarator_parts f scope l parts e
+one_declarator f scope (node k l parts nothing) e = declarator_of f scope k l parts e
 one_declarator f scope ds e = wrong e
 
 in_list : (f : Facts) (scope : ℕ) (m : Note) (ds : Forest) → Declarator f scope ds → Declares f scope (alone declarators m ds)
-in_list f scope m ds d = record { list_note = m; declarator_note = d.declarator_note; name_note = d.name_note; value_note = d.value_note; name = d.name; kind = d.kind; below = d.below; is = ap (λ t. alone declarators m t) d.is; unused = d.unused; may = d.may }
+in_list f scope m ds d =
+    record { list_note = m; declarator_note = d.declarator_note; name_note = d.name_note; value_note = d.value_note; name = d.name; kind = d.kind; below = d.below; is = ap (λ t. alone declarators m t) d.is; unused = d.unused; may = d.may }
+
+list_of : (f : Facts) (scope : ℕ) (k : Kind) (m : Note) (ds : Forest) → value_in_stays f scope k ds ≡ true → Declares f scope (alone k m ds)
+list_of f scope declarators m ds e = in_list f scope m ds (one_declarator f scope ds e)
+list_of f scope k m ds e = wrong e
 
 one_list : (f : Facts) (scope : ℕ) (t : Forest) → value_of_list_stays f scope t ≡ true → Declares f scope t
-one_list f scope (node declarators m ds nothing) e = in_list f scope m ds (one_declarator f scope ds e)
+one_list f scope (node k m ds nothing) e = list_of f scope k m ds e
 one_list f scope t e = wrong e
 
 -- of a node at a place, and of what it becomes
@@ -101,13 +121,13 @@ pub record States (f : Facts) (p : Place) (x y : Tree) : Type 0 where
   pub unused : variable_is_unused f (scope_of (where_of p) how) name_note.id ≡ true
   pub may : may_be_stated kind below ≡ true
 
-statement_with : Note → (below : Forest) → Tree
+abbrev statement_with : Note → (below : Forest) → Tree
 statement_with n below = record { kind = expression_statement; note = n; below = below }
 
 abbrev declaration_with : VariableKind → Note → (below : Forest) → Tree
 declaration_with how n below = record { kind = variable_declaration how; note = n; below = below }
 
-states_kind : (f : Facts) (p : Place) (k : Kind) (n : Note) (b : Forest) (y : Tree) → becomes_stated f p k b ≡ true → (let z : Tree = record { kind = expression_statement; note = unmarked n; below = value_below b } in z ≡ y) → (let x : Tree = record { kind = k; note = n; below = b } in States f p x y)
+states_kind : (f : Facts) (p : Place) (k : Kind) (n : Note) (b : Forest) (y : Tree) → becomes_stated f p k b ≡ true → statement_with (unmarked n) (value_below b) ≡ y → (let x : Tree = record { kind = k; note = n; below = b } in States f p x y)
 states_kind f p (variable_declaration how) n b y e is =
     let w = where_of p in
     let lists = value_of_list_stays f (scope_of w how) b in
@@ -124,7 +144,7 @@ states_kind f p (variable_declaration how) n b y e is =
       kind = d.kind;
       below = d.below;
       old = ap (λ t. declaration_with how n t) d.is;
-      new = ap (λ t. let z : Tree = record { kind = expression_statement; note = unmarked n; below = value_below t } in z) d.is ∙ is;
+      new = ap (λ t. statement_with (unmarked n) (value_below t)) d.is ∙ is;
       item = at_place.0;
       without = not_true w.in_with at_list.0;
       unused = d.unused;
@@ -132,7 +152,7 @@ states_kind f p (variable_declaration how) n b y e is =
     }
 states_kind f p k n b y e is = wrong e
 
-states_if : (f : Facts) (p : Place) (x y : Tree) (b : Bool) → becomes_stated f p x.kind x.below ≡ b → (let z : Tree = record { kind = expression_statement; note = unmarked x.note; below = value_below x.below } in (if b then Some z else None) ≡ Some y) → States f p x y
+states_if : (f : Facts) (p : Place) (x y : Tree) (b : Bool) → becomes_stated f p x.kind x.below ≡ b → (if b then Some (statement_with (unmarked x.note) (value_below x.below)) else None) ≡ Some y → States f p x y
 states_if f p x y true e is = states_kind f p x.kind x.note x.below y e (same_value is)
 states_if f p x y false e is = absurd cc
 

@@ -197,18 +197,31 @@ is_item_under a = false
 abbrev pub is_item : Place → Bool
 is_item p = is_item_under (nearest p.ancestors 0)
 
--- of what lies below a declarator: nothing uses the name, and a statement may begin with the value
+-- nothing uses the name that a declarator declares
+abbrev pub name_is_unused : Facts → (scope : ℕ) → Kind → Note → (below : Forest) → Bool
+name_is_unused f scope (binding_name x) n nothing = variable_is_unused f scope n.id
+name_is_unused f scope k n below = false
+
+-- of what lies below it: and a statement may begin with the value
 abbrev pub value_stays : Facts → (scope : ℕ) → (parts : Forest) → Bool
-value_stays f scope (node (binding_name x) n nothing (node k i b nothing)) = variable_is_unused f scope n.id && may_be_stated k b
+value_stays f scope (node t n a (node k i b nothing)) = name_is_unused f scope t n a && may_be_stated k b
 value_stays f scope parts = false
+
+abbrev pub value_of_stays : Facts → (scope : ℕ) → Kind → (parts : Forest) → Bool
+value_of_stays f scope variable_declarator parts = value_stays f scope parts
+value_of_stays f scope k parts = false
 
 -- it is the only declarator
 abbrev pub value_of_one_stays : Facts → (scope : ℕ) → (ds : Forest) → Bool
-value_of_one_stays f scope (node variable_declarator n parts nothing) = value_stays f scope parts
+value_of_one_stays f scope (node k n parts nothing) = value_of_stays f scope k parts
 value_of_one_stays f scope ds = false
 
+abbrev pub value_in_stays : Facts → (scope : ℕ) → Kind → (ds : Forest) → Bool
+value_in_stays f scope declarators ds = value_of_one_stays f scope ds
+value_in_stays f scope k ds = false
+
 abbrev pub value_of_list_stays : Facts → (scope : ℕ) → (below : Forest) → Bool
-value_of_list_stays f scope (node declarators n ds nothing) = value_of_one_stays f scope ds
+value_of_list_stays f scope (node k n ds nothing) = value_in_stays f scope k ds
 value_of_list_stays f scope below = false
 
 -- Inside of a `with` statement the value may be that of a property of its object (14.3.2).
