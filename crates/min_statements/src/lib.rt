@@ -3,7 +3,7 @@
 //! `Statements` is the walker (min_traverse): behind a list it takes out what stands behind a jump there and declares nothing around it,
 //! and what rules/DeadCode says goes of it (`trim_statements`), or imports without names behind other requests of their modules
 //! (`remove_repeated_imports`), behind a silent statement elsewhere it leaves an empty one, and so behind a branch or a body that does
-//! nothing (`empty_statement`), behind an `if` on a test that is known the branch that runs, or an empty statement, or the `if` without
+//! nothing (`empty_statement`), behind a declaration of one name that nothing uses a statement of its value (`state_value`), behind an `if` on a test that is known the branch that runs, or an empty statement, or the `if` without
 //! what declares no name in the other branch, and without the values there, behind one whose branches are empty a statement of its test, and
 //! behind one with an empty alternate the `if` without it (`try_fold_if`), behind an import the import without the names that nobody uses (`remove_unused_import_specifiers`), behind a
 //! module that module with its imports together (`merge_module_imports`), behind an expression that a known test decides the part that counts, alone, behind a zero, or behind the test where that acts, behind an operation

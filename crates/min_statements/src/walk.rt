@@ -23,7 +23,8 @@ use min_traverse::traverse_root;
 use std::alloc::AllocError;
 
 /// Takes dead code out of the lists of statements and unused names out of the imports of a whole program, given by its root, empties
-/// silent statements elsewhere and branches and bodies that do nothing, and lets expressions and `if`s that known tests decide come to the
+/// silent statements elsewhere and branches and bodies that do nothing, makes statements of the values of names that nothing uses, and lets
+/// expressions and `if`s that known tests decide come to the
 /// part that counts, alone or behind a zero, operations, arrays, objects and sequences of which nobody takes the value to what of them acts, and operations that don't act to
 /// their values: one pass. What is left comes by edits that a dead code remover may make, exactly what left is marked, and what was known
 /// of the program is known of what is left. If no other pass is asked for then, the program, the walker and the context are as they were,

@@ -1,7 +1,7 @@
-//! Which nodes does the pass over dead code take out, and why may it?
+//! Which nodes does the pass over dead code take out or make statements of values, and why may it?
 //!
-//! `specs/DeadCode/Rules.antt` has the rules: what they ask of the program and of the place, and what they leave of a list of statements
-//! and of a statement. `specs/DeadCode/Knows.antt` says what is to be true of the program then: a table that is exact but for marks, and
+//! `specs/DeadCode/Rules.antt` has the rules: what they ask of the program and of the place, and what they leave of a list of statements,
+//! of a statement and of a declaration. `specs/DeadCode/Knows.antt` says what is to be true of the program then: a table that is exact but for marks, and
 //! whose flags tell, is enough (steps/Marked). `laws` states that this stays true through edits, that by it what the rules take
 //! out comes by edits that a dead code remover may make (steps/Allowed), one node after the other, and that what is left weighs
 //! less, and is the same where nothing goes. `quiet` states that a program of which they take nothing out has no part that is dead
