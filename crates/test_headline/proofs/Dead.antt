@@ -50,12 +50,13 @@ use Rattle.steps.specs.Allowed.EmptyIf.{test_stays}
 use Rattle.steps.specs.Allowed.EmptyAlternate.{alternate_goes}
 use Rattle.steps.specs.Allowed.IdleBody.{is_idle_statement, idle_body_empties}
 use Rattle.steps.specs.Allowed.UnrunValue.{is_value_of, is_value, value_never_given}
+use Rattle.steps.specs.Allowed.ValueStays.{value_is_stated}
 use Rattle.steps.specs.Allowed.Uses.{Use}
 use Rattle.steps.proofs.Owed.IdleStatement.{idle_runs}
 use Rattle.steps.proofs.KeepForm.Asked.{idle_kinds}
 use Rattle.steps.proofs.Owed.IdleBody.{body_kind}
 use Rattle.headline.specs.Headline.{ImportsAreUsed}
-use Rattle.headline.specs.Clean.{IsDead, an_empty_statement, an_empty_block, a_silent_statement, an_unused_function, an_unused_declarator, an_unused_import, a_known_conditional, a_known_side, an_unused_operation, an_unused_list, an_indirect_choice, a_one_sided_choice, idle_parts, two_sides, an_unused_object, a_known_operation, a_known_if, a_dead_if, an_empty_if, an_empty_alternate, an_unreached_statement, an_untaken_statement, an_unrun_value, an_idle_statement, a_repeated_import, an_idle_try, an_idle_body, Clean}
+use Rattle.headline.specs.Clean.{IsDead, an_empty_statement, an_empty_block, a_silent_statement, an_unused_function, an_unused_declarator, a_value_of_an_unused_name, an_unused_import, a_known_conditional, a_known_side, an_unused_operation, an_unused_list, an_indirect_choice, a_one_sided_choice, idle_parts, two_sides, an_unused_object, a_known_operation, a_known_if, a_dead_if, an_empty_if, an_empty_alternate, an_unreached_statement, an_untaken_statement, an_unrun_value, an_idle_statement, a_repeated_import, an_idle_try, an_idle_body, Clean}
 use Rattle.min_peephole.specs.Quiet.{is_quiet}
 use Rattle.min_peephole.proofs.Quieted.{quiet_clean}
 use Rattle.test_headline.specs.Rows as row
@@ -631,6 +632,13 @@ suspect_there (behind k n b a) x h = or_right (is_suspect k) (has_suspect b || h
 suspect_there (behind_none a) x h = suspect_there a x h
 suspect_there (under k n a rest) x h = or_right (is_suspect k) (has_suspect (plug a (Some x)) || has_suspect rest) (or_left (has_suspect (plug a (Some x))) (has_suspect rest) (suspect_there a x h))
 
+-- what stands further in
+inner_suspect : (a : Around) (x : Tree) → has_suspect x.below ≡ true → has_suspect (plug a (Some x)) ≡ true
+inner_suspect (first rest) x h = or_right (is_suspect x.kind) (has_suspect x.below || has_suspect rest) (or_left (has_suspect x.below) (has_suspect rest) h)
+inner_suspect (behind k n b a) x h = or_right (is_suspect k) (has_suspect b || has_suspect (plug a (Some x))) (or_right (has_suspect b) (has_suspect (plug a (Some x))) (inner_suspect a x h))
+inner_suspect (behind_none a) x h = inner_suspect a x h
+inner_suspect (under k n a rest) x h = or_right (is_suspect k) (has_suspect (plug a (Some x)) || has_suspect rest) (or_left (has_suspect (plug a (Some x))) (has_suspect rest) (inner_suspect a x h))
+
 -- a value stands in a declarator
 declarator_suspect : (k : Kind) (a : Around) → is_value_of k a ≡ true → is_suspect k ≡ true
 declarator_suspect Kind.VariableDeclarator a h = refl
@@ -735,6 +743,7 @@ dead_suspect t a x is (an_empty_statement b n item) = ap has_suspect is ∙ susp
 dead_suspect t a x is (a_silent_statement b n below silent) = ap has_suspect is ∙ suspect_there b _ refl
 dead_suspect t a x is (an_unused_function b pure n m y rest unkept item own free) = ap has_suspect is ∙ suspect_there b _ refl
 dead_suspect t a x is (an_unused_declarator b n m y value unkept item own silent free) = ap has_suspect is ∙ suspect_there b _ refl
+dead_suspect t a x is (a_value_of_an_unused_name b y z unkept (value_is_stated how n m l j i o v k inner may item without own free)) = ap has_suspect is ∙ inner_suspect b _ refl
 dead_suspect t a x is (an_unused_import b k n m y unkept named binds imported own free) = ap has_suspect is ∙ suspect_there b _ (import_suspect k binds)
 dead_suspect t a x is (a_known_conditional b y z (consequent_is_taken n m i j v k l c d e truth may)) = ap has_suspect is ∙ suspect_there b _ refl
 dead_suspect t a x is (a_known_conditional b y z (alternate_is_taken n m i j v k l c d e truth may)) = ap has_suspect is ∙ suspect_there b _ refl

@@ -2,3 +2,4 @@ mod Runs
 mod Refused
 mod Left
 mod Dead
+mod Stated

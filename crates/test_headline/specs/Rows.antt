@@ -11,6 +11,7 @@ use Rattle.js_syntax.specs.declared.value.LiteralValue.{LiteralValue as Literal}
 use Rattle.js_syntax.specs.Node.{Forest, joined}
 use Rattle.form_rules.specs.Samples as form
 use Rattle.steps.specs.Allowed.Rows.{call_of_a, call_of_eval, exports_declaration, breaks_label, finally_alone, labeled, throws, null, if_null, either_way, imports_nothing, conditional, logical as either, applied, equals, array, sequence, behind_zero, while_}
+use Rattle.steps.specs.Allowed.ValueRows.{takes_call}
 use Rattle.scope_rules.specs.Samples.{imports}
 use Rattle.js_meaning.specs.Samples as sample
 use Rattle.js_meaning.specs.Examples.{g, o, function_g, says_number}
@@ -241,6 +242,10 @@ runs_finalizer = form.a_module (finally_alone (form.does call_of_a ∷ []) ∷ [
 -- if (a) a(); else ;
 abbrev pub ends_in_nothing : Forest
 ends_in_nothing = form.a_module (either_way (form.reads form.a) (calls (form.reads form.a) []) (form.leaf Kind.EmptyStatement) ∷ [])
+
+-- let x = a();
+abbrev pub names_call : Forest
+names_call = form.a_module (takes_call variable.Let ∷ [])
 
 -- if (a) ;
 abbrev pub tests_for_nothing : Forest

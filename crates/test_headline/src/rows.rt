@@ -68,7 +68,7 @@ pub fn what_others_may_use_stays()
 /// a));` and of `(1, o.g)();`, the comparison of `a() === b();`, the negation of `use(!0);`, the `if` of `if (1) a(); else b();` and of `if
 /// (null) a();`, the call of `throw 1; a();`, that of `b` in `if (null) { var a = 1; b(); } use(a);` and in `if (a && null) { b(); }`, `l:
 /// { {} }`, `l: while (null) a();`, the call of `if (null) var a = b(); use(a);`, `l: { break l; a(); }`, the `try` of `try {} finally {
-/// a(); }`, the block of `while (a) {}`, the `if` of `if (a) ;`, or the alternate of `if (a) a(); else ;`.
+/// a(); }`, the block of `while (a) {}`, the `if` of `if (a) ;`, the alternate of `if (a) a(); else ;`, or the name of `let x = a();`.
 pub fn dead_code_goes()
     ensures number { Headline row.dead row.dead → ⊥ }
     ensures conditional { Headline row.takes_branch row.takes_branch → ⊥ }
@@ -96,6 +96,7 @@ pub fn dead_code_goes()
     ensures body { Headline row.turns_around_block row.turns_around_block → ⊥ }
     ensures test { Headline row.tests_for_nothing row.tests_for_nothing → ⊥ }
     ensures alternate { Headline row.ends_in_nothing row.ends_in_nothing → ⊥ }
+    ensures value { Headline row.names_call row.names_call → ⊥ }
 {}
 
 /// `1;` is dead code, and so are `{ ; }`'s empty statement, a function that nothing calls, one of two declarators, a name of an import that
@@ -111,8 +112,8 @@ pub fn dead_code_goes()
 /// test: `if (a && null) { b(); }`, a block of nothing, or what labels one: `l: { {} }`, a loop that never turns: `l: while (null) a();`, a
 /// value that is never given: `if (null) var a = b(); use(a);`, an import without names behind one of its module: `import a from 'm';
 /// import 'm';`, what a jump to its label leaves at once: `l: { break l; a(); }`, a `try` around nothing: `try {} finally { a(); }`, a
-/// block of nothing that is a body: `while (a) {}`, an `if` whose branches are empty: `if (a) ;`, and an empty alternate: `if (a) a(); else
-/// ;`.
+/// block of nothing that is a body: `while (a) {}`, an `if` whose branches are empty: `if (a) ;`, an empty alternate: `if (a) a(); else ;`,
+/// and a declaration of one name that nothing refers to, though its value acts: `let x = a();`.
 pub fn dead_code_is_told()
     ensures number { Clean (a_module (does one ∷ [])) → ⊥ }
     ensures empty { Clean (a_module (block (empty ∷ []) ∷ [])) → ⊥ }
@@ -146,6 +147,7 @@ pub fn dead_code_is_told()
     ensures body { Clean row.turns_around_block → ⊥ }
     ensures test { Clean row.tests_for_nothing → ⊥ }
     ensures alternate { Clean row.ends_in_nothing → ⊥ }
+    ensures value { Clean row.names_call → ⊥ }
 {}
 
 /// A call is none, nor a function that is exported, a variable beside a direct call of `eval`, a function of a script, a
@@ -174,7 +176,7 @@ pub fn rules_take_dead_code_alone()
     ensures stays { is_quiet row.declares_nothing ≡ true }
 {}
 
-/// `f(1);` may take the place of `f(1); 2;`, `a();` that of `!(a() === 1);`, of `[a(), 1];` and of `({ a: a() });`, `a(), b();` that of
+/// `f(1);` may take the place of `f(1); 2;`, `a();` that of `!(a() === 1);`, of `[a(), 1];`, of `({ a: a() });` and of `let x = a();`, `a(), b();` that of
 /// `[a(), 1, b()];` and of `a() === b();`, `(0, o.g)();` that of `(1 ? o.g : null)();` and of `(1, o.g)();`, `a && b();` that of `a ? b() :
 /// 1;`, `use(a);` that of `use((1, a));`, and `use(true);` that of `use(!0);`.
 pub fn what_is_left()
@@ -189,6 +191,7 @@ pub fn what_is_left()
     ensures sides { Headline row.compares_calls row.calls_both }
     ensures held { Headline row.holds_call row.calls_a }
     ensures known { Headline row.uses_negation row.uses_true }
+    ensures named { Headline row.names_call row.calls_a }
 {}
 
 /// Edits lead from `f(-4); 2;` with a literal for -4 to `f(-4);`, which is written with unary minus on 4.
