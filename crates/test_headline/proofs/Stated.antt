@@ -1,5 +1,5 @@
 -- The value of a variable that nothing refers to stays as a statement.
-use Rattle.std.proofs.Common.{◌≡◌, ◌∙◌, [], ◌∷◌, List, Some, None, false, inl, inr, codes, refl, sym, ap}
+use Rattle.std.proofs.Common.{◌≡◌, ◌∙◌, [], ◌∷◌, List, Some, None, false, inl, inr, refl, sym, ap}
 use Rattle.js_syntax.specs.Class.{root}
 use Rattle.js_syntax.specs.declared.kind.VariableKind.TheVariants as variable
 use Rattle.js_syntax.specs.declared.scalar.SourceType.TheVariants as source_type
@@ -8,11 +8,13 @@ use Rattle.js_syntax.specs.Table.{a_program, a_variable_declaration, a_variable_
 use Rattle.form_rules.specs.Form.{IsWellFormed}
 use Rattle.json_text.specs.Text.{is_identifier_name}
 use Rattle.json_shape.specs.Shape.{Fits}
+use Rattle.scope_rules.specs.Context.{body_of}
 use Rattle.scope_rules.specs.Site.{BindingSite, ReferenceSite, sites_of, bindings_among}
-use Rattle.scope_rules.specs.Binding.{Binding, binding_of}
+use Rattle.scope_rules.specs.Binding.{Binding, named_in, binding_of}
 use Rattle.steps.specs.Allowed.Edits.{no_tree_edit, one_tree_edit, becomes, value_stays}
+use Rattle.steps.specs.Allowed.Free.{IsFree}
 use Rattle.steps.specs.Allowed.ValueRows.{x, only_item}
-use Rattle.steps.specs.Allowed.ValueStays.{ValueStays, value_is_stated}
+use Rattle.steps.specs.Allowed.ValueStays.{value_is_stated}
 use Rattle.steps.proofs.Allowed.Composing.{tree_edits_are_edits}
 use Rattle.headline.specs.Clean.{Clean, a_value_of_an_unused_name}
 use Rattle.headline.specs.Headline.{Edits, Headline}
@@ -24,17 +26,17 @@ use Rattle.test_headline.proofs.Dead.{name_stands, call_is_clean as a_is_clean}
 no_binding : (r s : ReferenceSite) (bs : List BindingSite) (b : Binding) → binding_of bs s ≡ None → s ≡ r → binding_of bs r ≡ Some b → ⊥
 no_binding r s bs b none is e = absurd (cc (sym none ∙ ap (binding_of bs) is ∙ e))
 
-call_stays : ValueStays only_item _ _
-call_stays = value_is_stated variable.Let nowhere nowhere nowhere nowhere nowhere nowhere x _ _ refl refl refl refl (record {
+name_is_free : IsFree row.names_call (named_in x (body_of 0))
+name_is_free = record {
   unreferred = λ r h e. elim h [
     | inl q ↦ no_binding r _ (bindings_among (sites_of row.names_call)) _ refl q e
     | inr n ↦ n
   ];
   unexported = λ e h s d. h;
-})
+}
 
 pub stated_is_dead : Clean row.names_call → ⊥
-stated_is_dead c = c.nothing_is_dead only_item _ refl (a_value_of_an_unused_name only_item _ _ refl call_stays)
+stated_is_dead c = c.nothing_is_dead only_item _ refl (a_value_of_an_unused_name only_item _ _ refl (value_is_stated variable.Let nowhere nowhere nowhere nowhere nowhere nowhere x _ _ refl refl refl refl name_is_free))
 
 pub stated_goes : Headline row.names_call row.names_call → ⊥
 stated_goes h = stated_is_dead h.clean
@@ -68,7 +70,7 @@ unfolding is_identifier_name
 named_well_formed = refl
 
 call_comes_out : Edits row.names_call row.calls_a
-call_comes_out = tree_edits_are_edits (one_tree_edit _ _ _ (becomes only_item _ _ (value_stays call_stays)) (no_tree_edit _))
+call_comes_out = tree_edits_are_edits (one_tree_edit _ _ _ (becomes only_item _ _ (value_stays (value_is_stated variable.Let nowhere nowhere nowhere nowhere nowhere nowhere x _ _ refl refl refl refl name_is_free))) (no_tree_edit _))
 
 pub stated_left : Headline row.names_call row.calls_a
 stated_left = headline_of row.names_call row.calls_a named_fits named_well_formed call_comes_out a_is_clean
