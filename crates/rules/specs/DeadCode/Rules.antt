@@ -5,7 +5,7 @@ use Rattle.js_syntax.specs.declared.node_kind.NodeKind.TheVariants.{EmptyStateme
 use Rattle.js_syntax.specs.declared.kind.FunctionKind.TheVariants as function_kind
 use Rattle.js_syntax.specs.declared.kind.VariableKind.{VariableKind}
 use Rattle.js_syntax.specs.declared.kind.VariableKind.TheVariants as variable
-use Rattle.js_syntax.specs.Node.{Forest, Tree, nothing, node, absent}
+use Rattle.js_syntax.specs.Node.{Forest, Tree, Note, nothing, node, absent}
 use Rattle.js_effects.specs.Silence.{is_marked, may_have_effects}
 use Rattle.min_context.specs.Ancestry.{nearest}
 use Rattle.min_context.specs.Place.{Place}
