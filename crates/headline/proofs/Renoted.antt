@@ -70,7 +70,7 @@ use Rattle.steps.proofs.Owed.EmptyBlock.{holds_bare}
 use Rattle.headline.proofs.RenotedIdle.{idle_bare}
 use Rattle.headline.proofs.RenotedTry.{idle_try_as}
 use Rattle.headline.proofs.RenotedRows.{same_below, same_rest, same_kind, same_absent, nothing_node, nothing_absent, absent_node, nothing_bare, begins, opened, before_one, before_two}
-use Rattle.headline.proofs.RenotedValue.{stated_as, declares_as}
+use Rattle.headline.proofs.RenotedValue.{stated_as, declared_as}
 use Rattle.headline.proofs.RenotedIf.{declares_bare, known_if_as, dead_if_as, empty_if_as, empty_alternate_as}
 use Rattle.headline.proofs.RenotedSites.{free_as, inside_same, opens_same, same_binding}
 
@@ -440,7 +440,7 @@ module _ (unused imports : Bool) (t u : Forest) (e : bare t ≡ bare u) (clean :
       let d = variable_declaration how in
       let old = declares_one m l j x (alone k i b) in
       let o = other_place a d n old is in
-      let f = declares_as o.below m l j i x k b o.same in
+      let f = declared_as o.below m l j i x k b o.same in
       let there : Forest → Forest = λ c. plug o.around (a_node d o.note c) in
       let then_ = plug a (a_node d n old) in
       let same : bare (there o.below) ≡ bare then_ = sym (ap bare o.is) ∙ e ∙ ap bare is in

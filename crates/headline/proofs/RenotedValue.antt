@@ -40,8 +40,12 @@ pub record DeclaresAs (f : Forest) (x : List ℕ) (k : Kind) (below : Forest) : 
   pub is : f ≡ declares_one list_note declarator_note name_note x (alone k value_note value_below)
   pub same : bare value_below ≡ bare below
 
-pub declares_as : (f : Forest) (m l j i : Note) (x : List ℕ) (k : Kind) (b : Forest) → bare f ≡ bare (declares_one m l j x (alone k i b)) → DeclaresAs f x k b
-declares_as f m l j i x k b e =
+declared_is : (f c d e v : Forest) (m l j i : Note) (x : List ℕ) (k : Kind) → f ≡ alone declarators m c → c ≡ alone variable_declarator l d → d ≡ node (binding_name x) j e (alone k i v) → e ≡ nothing → f ≡ declares_one m l j x (alone k i v)
+declared_is f c d e v m l j i x k list declarator name none =
+    list ∙ ap (alone declarators m) declarator ∙ ap (λ t. alone declarators m (alone variable_declarator l t)) name ∙ ap (λ t. alone declarators m (alone variable_declarator l (node (binding_name x) j t (alone k i v)))) none
+
+pub declared_as : (f : Forest) (m l j i : Note) (x : List ℕ) (k : Kind) (b : Forest) → bare f ≡ bare (declares_one m l j x (alone k i b)) → DeclaresAs f x k b
+declared_as f m l j i x k b e =
     let named = node (binding_name x) j nothing (alone k i b) in
     let o = alone_as f declarators m (alone variable_declarator l named) e in
     let p = alone_as o.inner variable_declarator l named o.same in
@@ -52,6 +56,6 @@ declares_as f m l j i x k b e =
       name_note = q.note;
       value_note = q.first_note;
       value_below = q.first_below;
-      is = o.is ∙ ap (alone declarators o.note) (p.is ∙ ap (alone variable_declarator p.note) (q.is ∙ ap (λ c. node (binding_name x) q.note c (alone k q.first_note q.first_below)) (nothing_bare q.below q.same_below)));
+      is = declared_is f o.inner p.inner q.below q.first_below o.note p.note q.note q.first_note x k o.is p.is q.is (nothing_bare q.below q.same_below);
       same = q.same;
     }
