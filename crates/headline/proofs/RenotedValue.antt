@@ -1,5 +1,5 @@
 -- A declaration of one name, of which the value may stay as a statement, doesn't see notes.
-use Rattle.std.proofs.Common.{◌≡◌, ◌∙◌, ℕ, List, true, not, ap, ap₂, refl}
+use Rattle.std.proofs.Common.{◌≡◌, ◌∙◌, ℕ, List, true, not, ap, refl}
 use Rattle.js_syntax.specs.declared.node_kind.NodeKind.{NodeKind as Kind}
 use Rattle.js_syntax.specs.declared.node_kind.NodeKind.TheVariants.{Literal as literal, VariableDeclarator as variable_declarator, Declarators as declarators, BindingName as binding_name}
 use Rattle.js_syntax.specs.Node.{Forest, Note, nothing, node, alone, bare}
