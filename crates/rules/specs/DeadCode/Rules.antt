@@ -235,8 +235,9 @@ below_first (node k n below rest) = below
 below_first t = nothing
 
 abbrev pub behind_first : Forest → Forest
+behind_first nothing = nothing
+behind_first (absent rest) = rest
 behind_first (node k n below rest) = rest
-behind_first t = nothing
 
 -- the value, behind the name in the only declarator of the list
 abbrev pub value_below : (below : Forest) → Forest
