@@ -23,7 +23,7 @@ use Rattle.rules.specs.Imports.Merged.{with_below, is_outermost}
 
 abbrev pub is_number : ℕ → Option ℕ → Bool
 is_number id None = false
-is_number id (Some other) = other == id
+is_number id (Some other) = id == other
 
 -- whether an export lists the reference
 abbrev pub has_reference : (listed : Forest) → ℕ → Bool
@@ -118,11 +118,25 @@ all_passed f before nothing = before
 all_passed f before (absent rest) = joined before (absent rest)
 all_passed f before (node k n below rest) = all_passed f (or_joined (passed_before f before k below) before (node k n below nothing)) rest
 
+-- and the exports that go
+abbrev pub and_gone : Option Forest → (k : Kind) (n : Note) (below gone : Forest) → Forest
+and_gone (Some others) k n below gone = node k n below gone
+and_gone None k n below gone = gone
+
+abbrev pub all_gone : Facts → (before items : Forest) → Forest
+all_gone f before nothing = nothing
+all_gone f before (absent rest) = nothing
+all_gone f before (node k n below rest) = and_gone (passed_before f before k below) k n below (all_gone f (or_joined (passed_before f before k below) before (node k n below nothing)) rest)
+
 -- ---- of a module, in its own list, unless a direct call of `eval` is anywhere in it (ECMA-262 19.2.1.1)
 
 abbrev pub list_passed : Facts → (below : Forest) → Option Forest
 list_passed f (node statements m items nothing) = if one_passes f nothing items then Some (node statements m (all_passed f nothing items) nothing) else None
 list_passed f below = None
+
+abbrev pub list_gone : Facts → (below : Forest) → Forest
+list_gone f (node statements m items nothing) = all_gone f nothing items
+list_gone f below = nothing
 
 abbrev pub below_passed : Facts → Kind → (below : Forest) → Option Forest
 below_passed f (program source_type.Module) below = list_passed f below
