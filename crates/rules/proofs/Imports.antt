@@ -6,6 +6,8 @@ pub mod Splitting
 pub mod Leaving
 pub mod Repeating
 pub mod Together
+pub mod PassedLeft
+pub mod Passing
 pub mod Pruning
 pub mod Used
 pub mod Walked

@@ -39,20 +39,20 @@ use Rattle.rules.proofs.DeadCode.Alive.{program_evaluates}
 use Rattle.rules.specs.Imports.Merged.{takes, with_names, is_taken, taken, goes, given, one_goes, together, list_together, below_together, with_below, is_outermost, come_together}
 use Rattle.rules.proofs.Told.Merged.{row_evaluates}
 
-no_kind : {A : Type 0} → false ≡ true → A
+pub no_kind : {A : Type 0} → false ≡ true → A
 no_kind e = absurd (true≢false (sym e))
 
 -- ---- items, none of which is left out
 
-data Items : Forest → Type 0 where
+pub data Items : Forest → Type 0 where
   no_items : Items nothing
   an_item : (k : Kind) (n : Note) (below rest : Forest) → Items rest → Items (node k n below rest)
 
-items_joined : {t u : Forest} → Items t → Items u → Items (joined t u)
+pub items_joined : {t u : Forest} → Items t → Items u → Items (joined t u)
 items_joined no_items h = h
 items_joined {u = u} (an_item k n below rest items) h = an_item k n below (joined rest u) (items_joined items h)
 
-one_more : {t : Forest} → Items t → (k : Kind) (n : Note) (below : Forest) → Items (joined t (node k n below nothing))
+pub one_more : {t : Forest} → Items t → (k : Kind) (n : Note) (below : Forest) → Items (joined t (node k n below nothing))
 one_more items k n below = items_joined items (an_item k n below nothing no_items)
 
 -- ---- an import that takes names
@@ -264,7 +264,7 @@ none_goes r none = by (one_goes nothing r) refl
 data Together : Kind → Forest → Forest → Type 0 where
   list_comes : (m : Note) (items : Forest) → one_goes nothing items ≡ true → Together (program source_type.Module) (node statements m items nothing) (node statements m (together nothing items) nothing)
 
-none_some : {A B : Type 0} {x : B} → None ≡ Some x → A
+pub none_some : {A B : Type 0} {x : B} → None ≡ Some x → A
 none_some e = absurd cc
 
 list_view : (b c : Forest) → list_together b ≡ Some c → Together (program source_type.Module) b c
@@ -290,7 +290,7 @@ record Came (f : Facts) (p : Place) (x y : Tree) : Type 0 where
   shut : scope_has f.scoping 0 scope_flag.direct_eval ≡ false
   is : record { kind = x.kind; note = x.note; below = below } ≡ y
 
-is_shut : (b : Bool) → not b ≡ true → b ≡ false
+pub is_shut : (b : Bool) → not b ≡ true → b ≡ false
 is_shut true h = absurd (true≢false (sym h))
 is_shut false h = refl
 
@@ -309,7 +309,7 @@ came f p x y e = by (is_outermost p.ancestors && not (scope_has f.scoping 0 scop
 
 -- ---- where no node is above, in a tree that fits the table, the program stands alone
 
-data Flat : Around → Type 0 where
+pub data Flat : Around → Type 0 where
   flat_here : Flat here
   flat_behind : (k : Kind) (n : Note) (below : Forest) (a : Around) → Flat (behind k n below a)
   flat_none : (a : Around) → Flat (behind_none a)
@@ -324,13 +324,13 @@ inside_something p above at previous more (behind k n b a) = inside_something p 
 inside_something p above at previous more (behind_none a) = inside_something p above (suc at) false more a
 inside_something p above at previous more (under k n a rest) = inside_something (place_of (record { outer = p; above = Some above; at = at; previous = previous }) (goes_on rest)) (above_of k n) 0 false more a
 
-flat : (a : Around) (more : Bool) → is_outermost (place_at a more).ancestors ≡ true → Flat a
+pub flat : (a : Around) (more : Bool) → is_outermost (place_at a more).ancestors ≡ true → Flat a
 flat here more h = flat_here
 flat (behind k n b a) more h = flat_behind k n b a
 flat (behind_none a) more h = flat_none a
 flat (under k n a rest) more h = absurd (true≢false (sym h ∙ inside_something outside (above_of k n) 0 false more a))
 
-data Alone : Around → Forest → Type 0 where
+pub data Alone : Around → Forest → Type 0 where
   all_alone : Alone here nothing
 
 some_there : (a : Around) (k : Kind) (n : Note) (b rest : Forest) → plug a (node k n b rest) ≡ nothing → ⊥
@@ -339,7 +339,7 @@ some_there (behind l m c a) k n b rest e = cc
 some_there (behind_none a) k n b rest e = cc
 some_there (under l m a r) k n b rest e = cc
 
-alone : (a : Around) (k : Kind) (n : Note) (b rest : Forest) → Fits root (plug a (node k n b rest)) → Flat a → Alone a rest
+pub alone : (a : Around) (k : Kind) (n : Note) (b rest : Forest) → Fits root (plug a (node k n b rest)) → Flat a → Alone a rest
 alone _ k n b rest fits flat_here = subst (λ r. Alone here r) (sym (ends rest fits.1)) all_alone
 alone _ k n b rest fits (flat_behind l m c a) = absurd (some_there a k n b rest (ends (plug a (node k n b rest)) fits.1))
 alone _ k n b rest fits (flat_none a) = absurd fits.0
@@ -347,7 +347,7 @@ alone _ k n b rest fits (flat_none a) = absurd fits.0
 -- ---- what it does
 
 -- what is known of a program says that no call of `eval` is in it where its scope has no such flag
-shut_there : (f : Facts) (marked : ℕ → Bool) (t : Forest) → Knows f marked t → scope_has f.scoping 0 scope_flag.direct_eval ≡ false → evaluates_somewhere t ≡ false
+pub shut_there : (f : Facts) (marked : ℕ → Bool) (t : Forest) → Knows f marked t → scope_has f.scoping 0 scope_flag.direct_eval ≡ false → evaluates_somewhere t ≡ false
 shut_there f marked t k shut = no_eval t k.fits f.scoping k.flags 0 k.outermost shut
 
 edits_by : {k : Kind} {b c : Forest} → Together k b c → (n : Note) → evaluates_somewhere (node k n b nothing) ≡ false → TreeEdits (node k n b nothing) (node k n c nothing)
@@ -405,7 +405,7 @@ comes_then x c false true h g e = cc
 comes_then x c true b h g e = true≢false h
 comes_then x c false false h g e = true≢false (sym g)
 
-not_flagged : (b c : Bool) → (b ≡ true → c ≡ true) → c ≡ false → b ≡ false
+pub not_flagged : (b c : Bool) → (b ≡ true → c ≡ true) → c ≡ false → b ≡ false
 not_flagged true c h g = absurd (true≢false (sym (h refl) ∙ g))
 not_flagged false c h g = refl
 

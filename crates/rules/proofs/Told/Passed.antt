@@ -126,7 +126,7 @@ names_evaluate (a_name Kind.ImportDefaultSpecifier n m x rest h names) = Prim.om
 names_evaluate (a_name Kind.ImportNamespaceSpecifier n m x rest h names) = Prim.omega (arith, names_evaluate names)
 names_evaluate (a_name k n m x rest h names) = absurd (true≢false (sym h))
 
-listed_evaluate : {t : Forest} → AreListed t → evals t ≡ 0
+pub listed_evaluate : {t : Forest} → AreListed t → evals t ≡ 0
 listed_evaluate none_listed = refl
 listed_evaluate (one_listed exported n m x rest are) = Prim.omega (arith, listed_evaluate are)
 
@@ -142,7 +142,7 @@ left_evaluates : {listed r s : Forest} → AreListed listed → WithoutExport li
 left_evaluates are (export_leaves n m rest) = Prim.omega (arith, listed_evaluate are)
 left_evaluates are (leaves_behind k n below r s out) = Prim.omega (arith, left_evaluates are out)
 
-row_evaluates : {names r s z : Forest} → PassesIn names r s z → evals z ≡ evals r
+pub row_evaluates : {names r s z : Forest} → PassesIn names r s z → evals z ≡ evals r
 row_evaluates (passes_here source n m i listed k below r s on out) =
     let known = parts on in
     Prim.omega (arith, names_evaluate known.names_are, new_evaluates known.new i s, left_evaluates known.listed_are out)

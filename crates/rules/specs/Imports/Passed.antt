@@ -69,7 +69,7 @@ passed names listed = None
 
 -- a namespace alone, and under which name it is exported
 abbrev pub namespace_passed : (names listed : Forest) → Option ModuleName
-namespace_passed (node import_namespace_specifier n below nothing) (node (export_specifier exported) i inner nothing) = Some exported
+namespace_passed (node import_namespace_specifier n below nothing) (node (export_specifier exported) i (node (reference_name y) j nothing nothing) nothing) = Some exported
 namespace_passed names listed = None
 
 -- The export has the import's note, its names have those that they had in the other export, and their list that of the import's.

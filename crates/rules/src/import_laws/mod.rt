@@ -13,7 +13,12 @@
 //! one before it that can take its names. `merged` states that so they come together by edits, that less is left then, with the same
 //! references and calls, and that none goes exactly where no two may become one.
 //!
+//! `specs/Imports/Passed.antt` has the rule on imports in such a program that a later export of names alone lists, where nothing else refers to
+//! their names: each becomes an export from its module, in its place, and the other export goes. `passed` states that so they do by edits,
+//! that less is left then and which references go, and that none does exactly where none may.
+//!
 //! The code is empty: each function's contract is a law.
 pub mod laws;
 pub mod merged;
+pub mod passed;
 pub mod rows;
