@@ -17,5 +17,6 @@ mod RenotedIdle
 mod RenotedTry
 mod RenotedValue
 mod RenotedImports
+mod RenotedPassed
 mod RenotedSites
 pub mod Renoted

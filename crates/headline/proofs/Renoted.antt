@@ -61,6 +61,7 @@ use Rattle.steps.proofs.Owed.ExposedBare.{bare_inside, bare_below, bare_exposed}
 use Rattle.steps.proofs.Owed.Focus.{follows_there}
 use Rattle.headline.specs.Clean.{IsDead, an_empty_statement, an_empty_block, a_silent_statement, an_unused_function, an_unused_declarator, a_value_of_an_unused_name, an_unused_import, a_known_conditional, a_known_side, an_unused_operation, an_unused_list, an_indirect_choice, a_one_sided_choice, idle_parts, two_sides, an_unused_object, a_known_operation, a_known_if, a_dead_if, an_empty_if, an_empty_alternate, an_unreached_statement, an_untaken_statement, an_unrun_value, an_idle_statement, a_repeated_import, an_idle_try, an_idle_body, CleanBut}
 use Rattle.headline.proofs.RenotedImports.{merged_as}
+use Rattle.headline.proofs.RenotedPassed.{passed_as}
 use Rattle.headline.proofs.RenotedUnused.{stands_as, needed_as, child_as, list_as}
 use Rattle.headline.proofs.RenotedChoice.{counts_as, follows_as}
 use Rattle.headline.proofs.RenotedParts.{side_as, sequence_as}
@@ -689,4 +690,5 @@ pub clean_as : (unused imports : Bool) (t u : Forest) → bare t ≡ bare u → 
 clean_as unused imports t u e clean = record {
   nothing_is_dead = none_dead unused imports t u e clean;
   imports_are_together = λ v merged. let o = merged_as t u v e merged in clean.imports_are_together o.0 o.1;
+  none_is_passed_on = λ v passed. let o = passed_as t u v e passed in clean.none_is_passed_on o.0 o.1;
 }

@@ -23,7 +23,7 @@ one_bare (node k n b r) = refl
 one_bare (absent r) = refl
 one_bare nothing = refl
 
-names_bare : (t : Forest) → are_names (bare t) ≡ are_names t
+pub names_bare : (t : Forest) → are_names (bare t) ≡ are_names t
 names_bare nothing = refl
 names_bare (absent r) = refl
 names_bare (node k n b r) = ap₂ (λ x y. binds_import k && (x && y)) (one_bare b) (names_bare r)
@@ -53,37 +53,37 @@ merge_as names later old gone is be h = sym (merge_bare old gone) ∙ ap₂ may_
 
 -- ---- nodes that differ in notes alone
 
-record AsNode (f : Forest) (k : Kind) (b r : Forest) : Type 0 where
-  note : Note
-  below : Forest
-  rest : Forest
-  is : f ≡ node k note below rest
-  same_below : bare below ≡ b
-  same_rest : bare rest ≡ r
+pub record AsNode (f : Forest) (k : Kind) (b r : Forest) : Type 0 where
+  pub note : Note
+  pub below : Forest
+  pub rest : Forest
+  pub is : f ≡ node k note below rest
+  pub same_below : bare below ≡ b
+  pub same_rest : bare rest ≡ r
 
-as_node : (f : Forest) (k : Kind) (b r : Forest) → bare f ≡ node k nowhere b r → AsNode f k b r
+pub as_node : (f : Forest) (k : Kind) (b r : Forest) → bare f ≡ node k nowhere b r → AsNode f k b r
 as_node nothing k b r e = absurd cc
 as_node (absent s) k b r e = absurd cc
 as_node (node l n c s) k b r e =
     let kinds : l ≡ k = cc e in
     record { note = n; below = c; rest = s; is = ap (λ z. node z n c s) kinds; same_below = cc e; same_rest = cc e }
 
-as_nothing : (f : Forest) → bare f ≡ nothing → f ≡ nothing
+pub as_nothing : (f : Forest) → bare f ≡ nothing → f ≡ nothing
 as_nothing nothing e = refl
 as_nothing (absent s) e = absurd cc
 as_nothing (node k n b s) e = absurd cc
 
 -- an import with its list
-record AsImport (f : Forest) (source : List ℕ) (names r : Forest) : Type 0 where
-  note : Note
-  list_note : Note
-  names_there : Forest
-  rest : Forest
-  is : f ≡ node (import_declaration source) note (node specifiers list_note names_there nothing) rest
-  same_names : bare names_there ≡ names
-  same_rest : bare rest ≡ r
+pub record AsImport (f : Forest) (source : List ℕ) (names r : Forest) : Type 0 where
+  pub note : Note
+  pub list_note : Note
+  pub names_there : Forest
+  pub rest : Forest
+  pub is : f ≡ node (import_declaration source) note (node specifiers list_note names_there nothing) rest
+  pub same_names : bare names_there ≡ names
+  pub same_rest : bare rest ≡ r
 
-as_import : (f : Forest) (source : List ℕ) (names r : Forest) → bare f ≡ node (import_declaration source) nowhere (node specifiers nowhere names nothing) r → AsImport f source names r
+pub as_import : (f : Forest) (source : List ℕ) (names r : Forest) → bare f ≡ node (import_declaration source) nowhere (node specifiers nowhere names nothing) r → AsImport f source names r
 as_import f source names r e =
     let o = as_node f (import_declaration source) (node specifiers nowhere names nothing) r e in
     let l = as_node o.below specifiers names nothing o.same_below in

@@ -53,6 +53,8 @@ use Rattle.steps.specs.Allowed.Untaken.{Untaken}
 use Rattle.steps.specs.Allowed.RepeatedImport.{RepeatedImport}
 -- and imports of one module
 use Rattle.steps.specs.Allowed.MergedImports.{MergedImports}
+-- and an import of names that only an export lists
+use Rattle.steps.specs.Allowed.PassedExports.{PassedExports}
 -- and a value that a declaration gives in such a branch
 use Rattle.steps.specs.Allowed.UnrunValue.{UnrunValue}
 -- and a declaration of a name that nothing uses, and a statement of its value
@@ -144,6 +146,9 @@ pub record CleanBut (unused imports : Bool) (t : Forest) : Type 0 where
   pub nothing_is_dead : (a : Around) (x : Option Tree) → t ≡ plug a x → IsDead unused imports t a x → ⊥
   -- and no import may take the names of a later one of the same module, whatever is kept, for none of them goes
   pub imports_are_together : (u : Forest) → MergedImports t u → ⊥
+  -- and no import is there for a later export of names alone, which could export them from the other module, whatever is kept, for that asks for
+  -- the same names
+  pub none_is_passed_on : (u : Forest) → PassedExports t u → ⊥
 
 -- where nothing is kept
 abbrev pub Clean : Forest → Type 0

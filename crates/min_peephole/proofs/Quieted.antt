@@ -18,6 +18,7 @@ use Rattle.rules.specs.DeadCode.Quiet.{EachNode, IsQuietAt}
 use Rattle.rules.specs.DeadCode.Rules.{Facts, where_of, has_dead, becomes_empty, becomes_stated}
 use Rattle.rules.proofs.DeadCode.Walked.{quiet_nodes}
 use Rattle.rules.specs.Imports.Merged.{come_together}
+use Rattle.rules.specs.Imports.Passed.{pass_on}
 use Rattle.rules.specs.Imports.Repeated.{list_once}
 use Rattle.rules.specs.Imports.Rules.{pruned}
 use Rattle.rules.specs.Imports.Quiet.{IsUsedAt}
@@ -102,9 +103,11 @@ module _ (f : Facts) (p : Place) (n : Note) (k : Kind) (inner : Forest) (h : sta
       let named = not (is_some (pruned f (where_of p) (record { kind = k; note = n; below = inner }))) in
       let once = not (is_some (list_once n k inner)) in
       let apart = not (is_some (come_together f p (record { kind = k; note = n; below = inner }))) in
-      let used = and_parts named (once && apart) at_import.0 in
-      let asked = and_parts once apart used.1 in
-      (none_there (pruned f (where_of p) (record { kind = k; note = n; below = inner })) used.0, none_there (list_once n k inner) asked.0, none_there (come_together f p (record { kind = k; note = n; below = inner })) asked.1)
+      let kept = not (is_some (pass_on f p (record { kind = k; note = n; below = inner }))) in
+      let used = and_parts named (once && (apart && kept)) at_import.0 in
+      let asked = and_parts once (apart && kept) used.1 in
+      let apart_kept = and_parts apart kept asked.1 in
+      (none_there (pruned f (where_of p) (record { kind = k; note = n; below = inner })) used.0, none_there (list_once n k inner) asked.0, none_there (come_together f p (record { kind = k; note = n; below = inner })) apart_kept.0, none_there (pass_on f p (record { kind = k; note = n; below = inner })) apart_kept.1)
 
   settled_here : IsSettledAt p (record { kind = k; note = n; below = inner })
   settled_here =

@@ -11,6 +11,7 @@ use Rattle.exported_names.specs.Answers.{bound_of}
 use Rattle.exported_names.specs.Exported.{exported_of}
 use Rattle.rules.specs.DeadCode.Rules.{Facts, where_of, has_dead, becomes_empty, becomes_stated}
 use Rattle.rules.specs.Imports.Merged.{come_together}
+use Rattle.rules.specs.Imports.Passed.{pass_on}
 use Rattle.rules.specs.Imports.Repeated.{list_once}
 use Rattle.rules.specs.Imports.Rules.{pruned}
 use Rattle.rules.specs.Expressions.Uses.{spot_of}
@@ -57,9 +58,9 @@ computes_none p n k inner =
     not (is_some (known_becomes n k inner))
     && (not (is_some (if_becomes n k inner)) && (not (is_some (test_left n k inner)) && (not (is_some (alternate_left (is_last p) n k inner)) && (not (is_some (list_reached n k inner)) && not (is_some (if_left n k inner))))))
 
--- and is no import that a name leaves, no list that an import leaves, and no program whose imports come together
+-- and is no import that a name leaves, no list that an import leaves, and no program whose imports come together or become exports from their modules
 abbrev pub uses_names : Facts → Place → Note → Kind → (inner : Forest) → Bool
-uses_names f p n k inner = not (is_some (pruned f (where_of p) (record { kind = k; note = n; below = inner }))) && (not (is_some (list_once n k inner)) && not (is_some (come_together f p (record { kind = k; note = n; below = inner }))))
+uses_names f p n k inner = not (is_some (pruned f (where_of p) (record { kind = k; note = n; below = inner }))) && (not (is_some (list_once n k inner)) && (not (is_some (come_together f p (record { kind = k; note = n; below = inner }))) && not (is_some (pass_on f p (record { kind = k; note = n; below = inner })))))
 
 -- a node at a place: no item of a list goes, no statement becomes empty, no declaration becomes a statement of its value, no name leaves an import, and no expression comes to its parts or its value
 abbrev pub stays : Facts → Place → Note → Kind → (inner : Forest) → Bool

@@ -14,6 +14,7 @@ use Rattle.rules.specs.Imports.Quiet.{ImportsUsed}
 use Rattle.rules.proofs.Imports.Used.{no_unused_name}
 use Rattle.rules.proofs.Imports.Repeating.{none_repeats}
 use Rattle.rules.proofs.Imports.Together.{rule_goes}
+use Rattle.rules.proofs.Imports.Passing as passing
 use Rattle.rules_clean.proofs.Deciding.{expressions_rest}
 use Rattle.rules_clean.proofs.Dying.{rules_rest}
 use Rattle.rules_clean.proofs.Importing.{imports_rest}
@@ -51,7 +52,7 @@ module _ (f : Facts) (t : Forest) (known : Knows f unmarked t) (exactly : Exactl
     none_dead a x is (a_repeated_import b y repeated) = none_repeats t (λ c z rest at. (used c z rest at).1) b y is repeated
 
     pub clean : CleanBut f.keeps_unused f.keeps_imports t
-    clean = record { nothing_is_dead = none_dead; imports_are_together = rule_goes f t known exactly (λ c z rest at. (used c z rest at).2) }
+    clean = record { nothing_is_dead = none_dead; imports_are_together = rule_goes f t known exactly (λ c z rest at. (used c z rest at).2); none_is_passed_on = passing.rule_goes f t known exactly (λ c z rest at. (used c z rest at).3) }
 
   pub clean_if_quiet : (IsQuiet f t × ImportsUsed f t × IsSettled t) ↔ CleanBut f.keeps_unused f.keeps_imports t
   clean_if_quiet = (λ h. clean h.0 h.1 h.2, λ h. (rules_rest f unmarked t known h, imports_rest f unmarked t known h, expressions_rest f.keeps_unused f.keeps_imports t h))

@@ -21,6 +21,7 @@ use Rattle.rules.proofs.Imports.Places.{an_import, in_import, name_plugged, name
 use Rattle.rules.proofs.Imports.Leaving.{name_unused}
 use Rattle.rules.proofs.Imports.Repeating.{once_without}
 use Rattle.rules.proofs.Imports.Together.{rule_stays}
+use Rattle.rules.proofs.Imports.Passing as passing
 use Rattle.rules_clean.proofs.Finding.{unused_name}
 use Rattle.rules_clean.proofs.Dying.{HasDead, clean_has_none, here_dead, variable_unkept}
 
@@ -52,4 +53,5 @@ imports_rest f marked t h clean =
       none_of (pruned f (where_of (place_at a (goes_on rest))) x) (λ y e. clean_has_none f t clean (subst (λ u. HasDead f u) (sym is) (import_dead f a x y rest (subst (λ u. Known f u) is (record { marked = marked; knows = h })) e))),
       once_without t (λ b y stands repeated. clean.nothing_is_dead b (Some y) stands (a_repeated_import b y repeated)) a x rest is,
       rule_stays f marked t h clean.imports_are_together a x rest is,
+      passing.rule_stays f marked t h clean.none_is_passed_on a x rest is,
     )

@@ -75,7 +75,7 @@ script_is_quiet =
     (still refl refl refl, (still refl refl refl, (still refl refl refl, (still refl refl refl, tt, (still refl refl refl, tt, (still refl refl refl, (still refl refl refl, tt, tt), tt))), tt), tt), tt)
 
 script_uses_imports : ImportsUsed known_of_the_script a_function_of_a_script
-script_uses_imports = imports_used known_of_the_script a_function_of_a_script ((refl, refl, refl), ((refl, refl, refl), ((refl, refl, refl), ((refl, refl, refl), tt, ((refl, refl, refl), tt, ((refl, refl, refl), ((refl, refl, refl), tt, tt), tt))), tt), tt), tt)
+script_uses_imports = imports_used known_of_the_script a_function_of_a_script ((refl, refl, refl, refl), ((refl, refl, refl, refl), ((refl, refl, refl, refl), ((refl, refl, refl, refl), tt, ((refl, refl, refl, refl), tt, ((refl, refl, refl, refl), ((refl, refl, refl, refl), tt, tt), tt))), tt), tt), tt)
 
 script_is_settled : IsSettled a_function_of_a_script
 script_is_settled =

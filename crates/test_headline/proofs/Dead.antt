@@ -44,6 +44,7 @@ use Rattle.steps.specs.Allowed.Unreached.{only_runs, never_runs}
 use Rattle.steps.specs.Allowed.Untaken.{never_taken}
 use Rattle.steps.specs.Allowed.RepeatedImport.{repeated_import_leaves}
 use Rattle.steps.specs.Allowed.MergedImports.{MergesIn, merges_here, merges_behind, MergedImports, imports_merge}
+use Rattle.steps.specs.Allowed.PassedExports.{PassesIn, passes_here, passes_behind, PassedExports, exports_pass}
 use Rattle.steps.specs.Allowed.IdleStatement.{idle_leaves}
 use Rattle.steps.specs.Allowed.IdleTry.{finalizer_is_run, finalizer_is_run_alone, block_is_run}
 use Rattle.steps.specs.Allowed.EmptyIf.{test_stays}
@@ -783,11 +784,20 @@ row_suspect (merges_behind k n b r s h) = or_right (is_suspect k) (has_suspect b
 merged_suspect : {t u : Forest} → MergedImports t u → has_suspect t ≡ true
 merged_suspect (imports_merge n m r s h quiet) = or_left (has_suspect r || false) false (or_left (has_suspect r) false (row_suspect h))
 
+-- and where one may become an export
+passing_suspect : {names r s z : Forest} → PassesIn names r s z → has_suspect r ≡ true
+passing_suspect (passes_here source n m i listed k below r s on out) = refl
+passing_suspect (passes_behind k n b r s z h) = or_right (is_suspect k) (has_suspect b || has_suspect r) (or_right (has_suspect b) (has_suspect r) (passing_suspect h))
+
+passed_suspect : {t u : Forest} → PassedExports t u → has_suspect t ≡ true
+passed_suspect (exports_pass n m names r s z h free quiet) = or_left (has_suspect r || false) false (or_left (has_suspect r) false (passing_suspect h))
+
 -- A declaration goes with the last of its declarators, and stays where it has none.
 pub nothing_declared_is_clean : Clean row.declares_nothing
 nothing_declared_is_clean = record {
   nothing_is_dead = λ a x is dead. true≢false (sym (dead_suspect row.declares_nothing a x is dead));
   imports_are_together = λ u merged. true≢false (sym (merged_suspect merged));
+  none_is_passed_on = λ u passed. true≢false (sym (passed_suspect passed));
 }
 
 pub nothing_declared_stays : is_quiet row.declares_nothing ≡ true
