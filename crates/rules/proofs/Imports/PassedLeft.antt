@@ -253,11 +253,11 @@ count_it id (x ∷ ids) (inr h) = Prim.omega (arith, count_it id ids h)
 
 counted : (id : ℕ) (ids : List ℕ) → 1 ≤ count id ids → Among id ids
 counted id [] h = absurd (Prim.omega (arith, h))
-counted id (x ∷ ids) h = by (id == x) refl h
+counted id (x ∷ ids) h = by (id == x) refl h (λ l. counted id ids l)
   where
-    by : (b : Bool) → (id == x) ≡ b → 1 ≤ cond b 1 0 + count id ids → Among id (x ∷ ids)
-    by true e l = inl (sym (eqb-true id x e))
-    by false e l = inr (counted id ids (Prim.omega (arith, l)))
+    by : (b : Bool) → (id == x) ≡ b → 1 ≤ cond b 1 0 + count id ids → (1 ≤ count id ids → Among id ids) → Among id (x ∷ ids)
+    by true e l more = inl (sym (eqb-true id x e))
+    by false e l more = inr (more (Prim.omega (arith, l)))
 
 all_there : (g : ℕ → Bool) (ids : List ℕ) → list_all g ids ≡ true → (id : ℕ) → Among id ids → g id ≡ true
 all_there g [] h id among = absurd among

@@ -7,6 +7,7 @@ use Rattle.js_syntax.specs.declared.node_kind.NodeKind.{NodeKind as Kind}
 use Rattle.js_syntax.specs.declared.node_kind.NodeKind.TheVariants.{Program as program, Statements as statements, ImportDeclaration as import_declaration, Specifiers as specifiers, ImportSpecifier as import_specifier, ImportDefaultSpecifier as import_default_specifier, ImportNamespaceSpecifier as import_namespace_specifier, BindingName as binding_name, ReferenceName as reference_name, ExportNamedDeclaration as export_named_declaration, ExportSpecifier as export_specifier, ForeignSpecifier as foreign_specifier}
 use Rattle.js_syntax.specs.declared.scalar.SourceType.TheVariants as source_type
 use Rattle.js_syntax.specs.declared.value.ModuleName.{ModuleName}
+use Rattle.js_syntax.specs.declared.value.ModuleName.TheVariants.{Name as plain_name}
 use Rattle.js_syntax.specs.Facts.{weight}
 use Rattle.js_syntax.specs.Node.{Forest, Tree, Note, nothing, node, absent, joined, forest_of, total}
 use Rattle.js_syntax.proofs.Truth.{first_of_either, second_of_either}
@@ -92,28 +93,28 @@ bound_here (Kind.ImportSpecifier name) n m y x rest exported e is = by (is_exact
     by false exact h = none_some h
 bound_here Kind.ImportDefaultSpecifier n m y x rest exported e is =
     subst (λ z. Binds (node import_default_specifier n (node (binding_name y) m nothing nothing) rest) x z) (cc is)
-    (subst (λ z. Binds (node import_default_specifier n (node (binding_name y) m nothing nothing) rest) z _) ((bytes_eq-Decides y x).0 e) (binds_default n m y rest))
+    (subst (λ z. Binds (node import_default_specifier n (node (binding_name y) m nothing nothing) rest) z (plain_name (codes "default"))) ((bytes_eq-Decides y x).0 e) (binds_default n m y rest))
 bound_here k n m y x rest exported e is = none_some is
 
 bound_is : {names : Forest} → AreNames names → (x : List ℕ) (exported : ModuleName) → bound_in names x ≡ Some exported → Binds names x exported
 bound_is no_names x exported e = none_some e
-bound_is (a_name k n m y rest h names) x exported e = by (bytes_eq y x) (is_some (imported k)) refl e
+bound_is (a_name k n m y rest h names) x exported e = by (bytes_eq y x) (is_some (imported k)) refl e (λ is. bound_is names x exported is)
   where
-    by : (b c : Bool) → bytes_eq y x ≡ b → (if b && c then imported k else bound_in rest x) ≡ Some exported → Binds (node k n (node (binding_name y) m nothing nothing) rest) x exported
-    by true true e is = bound_here k n m y x rest exported e is
-    by true false e is = binds_behind k n (node (binding_name y) m nothing nothing) rest x exported (bound_is names x exported is)
-    by false c e is = binds_behind k n (node (binding_name y) m nothing nothing) rest x exported (bound_is names x exported is)
+    by : (b c : Bool) → bytes_eq y x ≡ b → (if b && c then imported k else bound_in rest x) ≡ Some exported → (bound_in rest x ≡ Some exported → Binds rest x exported) → Binds (node k n (node (binding_name y) m nothing nothing) rest) x exported
+    by true true e is more = bound_here k n m y x rest exported e is
+    by true false e is more = binds_behind k n (node (binding_name y) m nothing nothing) rest x exported (more is)
+    by false c e is more = binds_behind k n (node (binding_name y) m nothing nothing) rest x exported (more is)
 
 passed_is : {names : Forest} → AreNames names → (listed list : Forest) → passed names listed ≡ Some list → Passes names listed list
 passed_is {names = names} are nothing list e = subst (λ z. Passes names nothing z) (cc e) passes_none
-passed_is {names = names} are (node (Kind.ExportSpecifier exported) n (node (Kind.ReferenceName x) m nothing nothing) rest) list e = by (bound_in names x) (passed names rest) refl refl e
+passed_is {names = names} are (node (Kind.ExportSpecifier exported) n (node (Kind.ReferenceName x) m nothing nothing) rest) list e = by (bound_in names x) (passed names rest) refl refl e (λ more h. passed_is are rest more h)
   where
-    by : (o : Option ModuleName) (p : Option Forest) → bound_in names x ≡ o → passed names rest ≡ p → and_passed exported n o p ≡ Some list → Passes names (node (export_specifier exported) n (node (reference_name x) m nothing nothing) rest) list
-    by (Some name) (Some more) b h is =
-        subst (λ z. Passes names (node (export_specifier exported) n (node (reference_name x) m nothing nothing) rest) z) (cc is)
-        (passes_one exported name n m n x rest more (bound_is are x name b) (passed_is are rest more h))
-    by (Some name) None b h is = none_some is
-    by None p b h is = none_some is
+    by : (o : Option ModuleName) (p : Option Forest) → bound_in names x ≡ o → passed names rest ≡ p → and_passed exported n o p ≡ Some list → ((more : Forest) → passed names rest ≡ Some more → Passes names rest more)
+        → Passes names (node (export_specifier exported) n (node (reference_name x) m nothing nothing) rest) list
+    by (Some name) (Some more) b h is later =
+        subst (λ z. Passes names (node (export_specifier exported) n (node (reference_name x) m nothing nothing) rest) z) (cc is) (passes_one exported name n m n x rest more (bound_is are x name b) (later more h))
+    by (Some name) None b h is later = none_some is
+    by None p b h is later = none_some is
 passed_is are (node (Kind.ExportSpecifier exported) n (node (Kind.ReferenceName x) m nothing (node k i b r)) rest) list e = none_some e
 passed_is are (node (Kind.ExportSpecifier exported) n (node (Kind.ReferenceName x) m nothing (absent r)) rest) list e = none_some e
 passed_is are (node (Kind.ExportSpecifier exported) n (node (Kind.ReferenceName x) m (node k i b r) beside) rest) list e = none_some e
@@ -161,6 +162,8 @@ namespace_on : (source : List ℕ) {names listed : Forest} (exported : ModuleNam
 namespace_on source _ (a_name _ n m x _ binds no_names) (a_namespace exported _ i j _ y) h =
     subst (λ z. PassedOn source (node import_namespace_specifier n (node (binding_name x) m nothing nothing) nothing) (node (export_specifier exported) i (node (reference_name z) j nothing nothing) nothing) (Kind.ExportAllDeclaration (Some exported) source) nothing)
     (sym ((bytes_eq-Decides y x).0 (one_listed_so (bytes_eq y x) true h))) (namespace_passed_on exported n m i j x)
+namespace_on source exported no_names whole h = elim whole []
+namespace_on source exported (a_name k n m x _ binds (a_name _ _ _ _ rest _ _)) whole h = elim whole []
 
 -- ---- what an import becomes
 
@@ -223,23 +226,24 @@ module _ (f : Facts) (listed : Forest) {r s : Forest} (out : WithoutExport liste
 
   found : {before : Forest} → Items before → (others : Forest) → passed_among f listed before ≡ Some others → Found f listed (joined before r) (joined before s) (joined others s)
   found no_items others e = none_some e
-  found (an_item k n b p items) others e = by (passed_on f listed k n b) (passed_among f listed p) refl refl e
+  found (an_item k n b p items) others e = by (passed_on f listed k n b) (passed_among f listed p) refl refl e (λ more h. found items more h)
     where
-      by : (o : Option Tree) (l : Option Forest) → passed_on f listed k n b ≡ o → passed_among f listed p ≡ l → put_in k n b p o l ≡ Some others → Found f listed (node k n b (joined p r)) (node k n b (joined p s)) (joined others s)
-      by (Some y) l it later is =
+      by : (o : Option Tree) (l : Option Forest) → passed_on f listed k n b ≡ o → passed_among f listed p ≡ l → put_in k n b p o l ≡ Some others
+          → ((more : Forest) → passed_among f listed p ≡ Some more → Found f listed (joined p r) (joined p s) (joined more s)) → Found f listed (node k n b (joined p r)) (node k n b (joined p s)) (joined others s)
+      by (Some y) l it later is next =
           subst (λ z. Found f listed (node k n b (joined p r)) (node k n b (joined p s)) (joined z s)) (cc is) (here_found (becomes f listed k n b y it) items)
-      by None (Some more) it later is =
-          subst (λ z. Found f listed (node k n b (joined p r)) (node k n b (joined p s)) (joined z s)) (cc is) (behind_found k n b (found items more later))
-      by None None it later is = none_some is
+      by None (Some more) it later is next =
+          subst (λ z. Found f listed (node k n b (joined p r)) (node k n b (joined p s)) (joined z s)) (cc is) (behind_found k n b (next more later))
+      by None None it later is next = none_some is
 
 found_items : (f : Facts) (listed : Forest) {before : Forest} → Items before → (others : Forest) → passed_among f listed before ≡ Some others → Items others
 found_items f listed no_items others e = none_some e
-found_items f listed (an_item k n b p items) others e = by (passed_on f listed k n b) (passed_among f listed p) refl e
+found_items f listed (an_item k n b p items) others e = by (passed_on f listed k n b) (passed_among f listed p) refl e (λ more h. found_items f listed items more h)
   where
-    by : (o : Option Tree) (l : Option Forest) → passed_among f listed p ≡ l → put_in k n b p o l ≡ Some others → Items others
-    by (Some y) l later is = subst (λ z. Items z) (cc is) (an_item y.kind y.note y.below p items)
-    by None (Some more) later is = subst (λ z. Items z) (cc is) (an_item k n b more (found_items f listed items more later))
-    by None None later is = none_some is
+    by : (o : Option Tree) (l : Option Forest) → passed_among f listed p ≡ l → put_in k n b p o l ≡ Some others → ((more : Forest) → passed_among f listed p ≡ Some more → Items more) → Items others
+    by (Some y) l later is next = subst (λ z. Items z) (cc is) (an_item y.kind y.note y.below p items)
+    by None (Some more) later is next = subst (λ z. Items z) (cc is) (an_item k n b more (next more later))
+    by None None later is next = none_some is
 
 -- an export that goes
 data Goes (f : Facts) (before : Forest) : Kind → Forest → Forest → Type 0 where
@@ -335,7 +339,7 @@ passed_sum passes_none = Prim.omega arith
 passed_sum (passes_one exported imported n m i x rest list binds more) = Prim.omega (arith, passed_sum more)
 
 row_lighter : {names listed r s z : Forest} → Passing names listed r s z → total weight z + 1 ≤ total weight r
-row_lighter (passing_here source n m i _ _ r s (names_passed_on names listed list j may passes) out) = Prim.omega (arith, passed_sum passes, left_sum out)
+row_lighter (passing_here source n m i _ _ r s (names_passed_on names listed list j may each) out) = Prim.omega (arith, passed_sum each, left_sum out)
 row_lighter (passing_here source n m i _ _ r s (namespace_passed_on exported j l o q x) out) = Prim.omega (arith, left_sum out)
 row_lighter (passing_behind k n below r s z p) = Prim.omega (arith, row_lighter p)
 
@@ -367,12 +371,13 @@ module _ (w : Weight) where
 
   among_tally : (f : Facts) (listed : Forest) {before : Forest} → Items before → (others : Forest) → passed_among f listed before ≡ Some others → tally w others ≡ tally w before
   among_tally f listed no_items others e = none_some e
-  among_tally f listed (an_item k n b p items) others e = by (passed_on f listed k n b) (passed_among f listed p) refl refl e
+  among_tally f listed (an_item k n b p items) others e = by (passed_on f listed k n b) (passed_among f listed p) refl refl e (λ more h. among_tally f listed items more h)
     where
-      by : (o : Option Tree) (l : Option Forest) → passed_on f listed k n b ≡ o → passed_among f listed p ≡ l → put_in k n b p o l ≡ Some others → tally w others ≡ tally w (node k n b p)
-      by (Some y) l it later is = subst (λ z. tally w z ≡ tally w (node k n b p)) (cc is) (becomes_tally (becomes f listed k n b y it) p)
-      by None (Some more) it later is = subst (λ z. tally w z ≡ tally w (node k n b p)) (cc is) (Prim.omega (arith, among_tally f listed items more later))
-      by None None it later is = none_some is
+      by : (o : Option Tree) (l : Option Forest) → passed_on f listed k n b ≡ o → passed_among f listed p ≡ l → put_in k n b p o l ≡ Some others → ((more : Forest) → passed_among f listed p ≡ Some more → tally w more ≡ tally w p)
+          → tally w others ≡ tally w (node k n b p)
+      by (Some y) l it later is next = subst (λ z. tally w z ≡ tally w (node k n b p)) (cc is) (becomes_tally (becomes f listed k n b y it) p)
+      by None (Some more) it later is next = subst (λ z. tally w z ≡ tally w (node k n b p)) (cc is) (Prim.omega (arith, next more later))
+      by None None it later is next = none_some is
 
   goes_tally : (f : Facts) {before : Forest} → Items before → {k : Kind} {b others : Forest} → Goes f before k b others → tally w others ≡ tally w before
   goes_tally f items (goes_away m listed others e) = among_tally f listed items others e
