@@ -162,8 +162,8 @@ namespace_on : (source : List ℕ) {names listed : Forest} (exported : ModuleNam
 namespace_on source _ (a_name _ n m x _ binds no_names) (a_namespace exported _ i j _ y) h =
     subst (λ z. PassedOn source (node import_namespace_specifier n (node (binding_name x) m nothing nothing) nothing) (node (export_specifier exported) i (node (reference_name z) j nothing nothing) nothing) (Kind.ExportAllDeclaration (Some exported) source) nothing)
     (sym ((bytes_eq-Decides y x).0 (one_listed_so (bytes_eq y x) true h))) (namespace_passed_on exported n m i j x)
-namespace_on source exported no_names whole h = elim whole []
-namespace_on source exported (a_name k n m x _ binds (a_name _ _ _ _ rest _ _)) whole h = elim whole []
+namespace_on source exported no_names whole h = elim whole [ ]
+namespace_on source exported (a_name k n m x _ binds (a_name _ _ _ _ rest _ _)) whole h = elim whole [ ]
 
 -- ---- what an import becomes
 
