@@ -128,13 +128,13 @@ as_export : (f : Forest) (listed r : Forest) → bare f ≡ node (export_named_d
 as_export f listed r e =
     let o = as_node f (export_named_declaration None) (absent (node specifiers nowhere listed nothing)) r e in
     let a = as_absent o.below (node specifiers nowhere listed nothing) o.same_below in
-    let l = as_node a.0 specifiers listed nothing a.1.1 in
+    let l = as_node a.0 specifiers listed nothing a.2 in
     record {
       note = o.note;
       list_note = l.note;
       listed_there = l.below;
       rest = o.rest;
-      is = o.is ∙ ap (λ b. node (export_named_declaration None) o.note b o.rest) (a.1.0 ∙ ap absent (l.is ∙ ap (node specifiers l.note l.below) (as_nothing l.rest l.same_rest)));
+      is = o.is ∙ ap (λ b. node (export_named_declaration None) o.note b o.rest) (a.1 ∙ ap absent (l.is ∙ ap (node specifiers l.note l.below) (as_nothing l.rest l.same_rest)));
       same_listed = l.same_below;
       same_rest = o.same_rest;
     }
