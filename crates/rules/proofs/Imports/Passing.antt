@@ -231,9 +231,11 @@ module _ (f : Facts) (listed : Forest) {r s : Forest} (out : WithoutExport liste
       by : (o : Option Tree) (l : Option Forest) → passed_on f listed k n b ≡ o → passed_among f listed p ≡ l → put_in k n b p o l ≡ Some others
           → ((more : Forest) → passed_among f listed p ≡ Some more → Found f listed (joined p r) (joined p s) (joined more s)) → Found f listed (node k n b (joined p r)) (node k n b (joined p s)) (joined others s)
       by (Some y) l it later is next =
-          subst (λ z. Found f listed (node k n b (joined p r)) (node k n b (joined p s)) (joined z s)) (cc is) (here_found (becomes f listed k n b y it) items)
+          let same : node y.kind y.note y.below p ≡ others = cc is in
+          subst (λ z. Found f listed (node k n b (joined p r)) (node k n b (joined p s)) (joined z s)) same (here_found (becomes f listed k n b y it) items)
       by None (Some more) it later is next =
-          subst (λ z. Found f listed (node k n b (joined p r)) (node k n b (joined p s)) (joined z s)) (cc is) (behind_found k n b (next more later))
+          let same : node k n b more ≡ others = cc is in
+          subst (λ z. Found f listed (node k n b (joined p r)) (node k n b (joined p s)) (joined z s)) same (behind_found k n b (next more later))
       by None None it later is next = none_some is
 
 found_items : (f : Facts) (listed : Forest) {before : Forest} → Items before → (others : Forest) → passed_among f listed before ≡ Some others → Items others
@@ -375,8 +377,8 @@ module _ (w : Weight) where
     where
       by : (o : Option Tree) (l : Option Forest) → passed_on f listed k n b ≡ o → passed_among f listed p ≡ l → put_in k n b p o l ≡ Some others → ((more : Forest) → passed_among f listed p ≡ Some more → tally w more ≡ tally w p)
           → tally w others ≡ tally w (node k n b p)
-      by (Some y) l it later is next = subst (λ z. tally w z ≡ tally w (node k n b p)) (cc is) (becomes_tally (becomes f listed k n b y it) p)
-      by None (Some more) it later is next = subst (λ z. tally w z ≡ tally w (node k n b p)) (cc is) (Prim.omega (arith, next more later))
+      by (Some y) l it later is next = let same : node y.kind y.note y.below p ≡ others = cc is in subst (λ z. tally w z ≡ tally w (node k n b p)) same (becomes_tally (becomes f listed k n b y it) p)
+      by None (Some more) it later is next = let same : node k n b more ≡ others = cc is in subst (λ z. tally w z ≡ tally w (node k n b p)) same (Prim.omega (arith, next more later))
       by None None it later is next = none_some is
 
   goes_tally : (f : Facts) {before : Forest} → Items before → {k : Kind} {b others : Forest} → Goes f before k b others → tally w others ≡ tally w before
