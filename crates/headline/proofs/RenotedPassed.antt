@@ -169,11 +169,10 @@ passing_as {names = names} (passes_here source n m i listed k below r s on out) 
     let o = as_import f source (bare names) (bare r) e in
     let w = without_as out o.rest o.same_rest in
     let p = on_as on o.names_there w.gone o.same_names w.same in
-    let item = λ t. node (import_declaration source) o.note (node specifiers o.list_note o.names_there nothing) t in
     subst (λ t. Passing names (node (import_declaration source) n (node specifiers m names nothing) s) t) (sym o.is)
     (record {
       names_there = o.names_there;
-      left_there = item w.rest;
+      left_there = node (import_declaration source) o.note (node specifiers o.list_note o.names_there nothing) w.rest;
       now = node p.kind i p.below w.rest;
       same_names = o.same_names;
       same_left = ap₂ (λ t u. node (import_declaration source) nowhere (node specifiers nowhere t nothing) u) o.same_names w.same_left;
