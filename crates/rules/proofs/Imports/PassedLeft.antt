@@ -1,6 +1,6 @@
 -- What is known of a program is known of it without an export of names alone, but that its references are marked; so by the rule nothing of
 -- what is left refers to an import's names exactly where the export lists what their symbols list.
-use Rattle.std.proofs.Common.{◌≡◌, ◌∙◌, ◌≤◌, ◌+◌, ◌==◌, inl, inr, ℕ, suc, List, [], ◌∷◌, ◌++◌, Bool, true, false, true≢false, not, ◌&&◌, ◌||◌, if◌then◌else◌, slice_get, append-nil, Option, Some, None, refl, sym, ap, subst, arith, eqb-true, eq-eqb}
+use Rattle.std.proofs.Common.{◌≡◌, ◌∙◌, ◌≤◌, ◌+◌, ◌==◌, inl, inr, ℕ, suc, List, [], ◌∷◌, ◌++◌, Bool, true, false, true≢false, not, ◌||◌, if◌then◌else◌, slice_get, append-nil, Option, Some, None, refl, sym, ap, subst, arith, eqb-true, eq-eqb}
 use Rattle.std.specs.Prelude.{cond, nat_lt}
 use Rattle.std.specs.List.{list_all}
 use Rattle.std.proofs.lemmas.Bool.{and_parts, and_from, false_from_ne_true}
@@ -9,7 +9,7 @@ use Rattle.js_syntax.specs.declared.node_kind.NodeKind.{NodeKind as Kind}
 use Rattle.js_syntax.specs.declared.node_kind.NodeKind.TheVariants.{Program as program, Statements as statements, ImportDeclaration as import_declaration, Specifiers as specifiers, BindingName as binding_name, PropertyDefinition as property_definition, ExportNamedDeclaration as export_named_declaration}
 use Rattle.js_syntax.specs.declared.scalar.SourceType.TheVariants as source_type
 use Rattle.js_syntax.specs.Class.{root}
-use Rattle.js_syntax.specs.Node.{Forest, Tree, Note, nothing, node, absent}
+use Rattle.js_syntax.specs.Node.{Forest, Note, nothing, node, absent}
 use Rattle.js_syntax.proofs.Truth.{not_true}
 use Rattle.js_effects.specs.Silence.{is_marked}
 use Rattle.js_meaning_near.specs.Near.{module_of}
@@ -22,7 +22,7 @@ use Rattle.scope_table.specs.Reading.{no_symbol, symbol_at}
 use Rattle.scope_laws.specs.Exact.{Among, IsDeclared, Exact}
 use Rattle.scope_laws.specs.Lists.{is_list}
 use Rattle.scope_laws.specs.Place.{plug}
-use Rattle.scope_counts.specs.Counts.{Decl, Aims, hoisted, is_id, by_id, ids}
+use Rattle.scope_counts.specs.Counts.{Aims, hoisted, is_id, ids}
 use Rattle.scope_counts.specs.Edits as counts
 use Rattle.scope_counts.specs.Edits.{place_in, program_with, SameScopes, in_list}
 use Rattle.scope_counts.specs.Exact.{count, references_of, lists_of}

@@ -1,10 +1,10 @@
 -- Imports that later exports list become exports from their modules by edits, one after the other; and none may exactly where none does.
-use Rattle.std.proofs.Common.{◌≡◌, ◌∙◌, ◌≤◌, ◌+◌, ℕ, List, codes, Bool, true, false, true≢false, not, ◌&&◌, ◌||◌, is_some, Option, Some, None, if◌then◌else◌, refl, sym, ap, subst, arith}
+use Rattle.std.proofs.Common.{◌≡◌, ◌∙◌, ◌≤◌, ◌+◌, ℕ, List, codes, Bool, true, false, true≢false, not, ◌&&◌, ◌||◌, is_some, Option, Some, None, if◌then◌else◌, refl, sym, subst, arith}
 use Rattle.std.proofs.lemmas.Bool.{and_parts, and_from}
 use Rattle.std.proofs.lemmas.Slice.Eq.{bytes_eq-Decides}
 use Rattle.std.specs.Str.{bytes_eq}
 use Rattle.js_syntax.specs.declared.node_kind.NodeKind.{NodeKind as Kind}
-use Rattle.js_syntax.specs.declared.node_kind.NodeKind.TheVariants.{Program as program, Statements as statements, ImportDeclaration as import_declaration, Specifiers as specifiers, ImportSpecifier as import_specifier, ImportDefaultSpecifier as import_default_specifier, ImportNamespaceSpecifier as import_namespace_specifier, BindingName as binding_name, ReferenceName as reference_name, ExportNamedDeclaration as export_named_declaration, ExportSpecifier as export_specifier, ForeignSpecifier as foreign_specifier}
+use Rattle.js_syntax.specs.declared.node_kind.NodeKind.TheVariants.{Program as program, Statements as statements, ImportDeclaration as import_declaration, Specifiers as specifiers, ImportSpecifier as import_specifier, ImportDefaultSpecifier as import_default_specifier, ImportNamespaceSpecifier as import_namespace_specifier, BindingName as binding_name, ReferenceName as reference_name, ExportNamedDeclaration as export_named_declaration, ExportSpecifier as export_specifier}
 use Rattle.js_syntax.specs.declared.scalar.SourceType.TheVariants as source_type
 use Rattle.js_syntax.specs.declared.value.ModuleName.{ModuleName}
 use Rattle.js_syntax.specs.declared.value.ModuleName.TheVariants.{Name as plain_name}
@@ -24,12 +24,12 @@ use Rattle.scope_counts.proofs.Leaving.{ids_joined}
 use Rattle.steps.specs.Allowed.Edits.{TreeEdits, no_tree_edit, one_tree_edit, passes}
 use Rattle.steps.specs.Allowed.Exposure.{evaluates_somewhere}
 use Rattle.steps.specs.Allowed.MergedImports.{are_names}
-use Rattle.steps.specs.Allowed.PassedExports.{AreFree, Binds, binds_export, binds_default, binds_behind, lists, lists_each, Passes, passes_none, passes_one, may_pass, PassedOn, names_passed_on, namespace_passed_on, WithoutExport, export_leaves, leaves_behind, PassesIn, passes_here, passes_behind, PassedExports, exports_pass}
+use Rattle.steps.specs.Allowed.PassedExports.{Binds, binds_export, binds_default, binds_behind, lists_each, Passes, passes_none, passes_one, may_pass, PassedOn, names_passed_on, namespace_passed_on, WithoutExport, export_leaves, leaves_behind, PassesIn, passes_here, passes_behind, PassedExports, exports_pass}
 use Rattle.steps.specs.Allowed.Places.{has_node}
 use Rattle.steps.specs.Marked.Flags.{scope_has}
 use Rattle.steps.proofs.Marked.Passed.{same_evaluates}
 use Rattle.steps.proofs.Owed.MergedRows.{AreNames, no_names, a_name, known_names}
-use Rattle.steps.proofs.Owed.PassedRows.{AreListed, none_listed, one_listed, parts}
+use Rattle.steps.proofs.Owed.PassedRows.{AreListed, parts}
 use Rattle.steps.proofs.Owed.PassedTables.{new_tally}
 use Rattle.rules.specs.DeadCode.Knows.{Knows}
 use Rattle.rules.specs.DeadCode.Quiet.{Exactly}

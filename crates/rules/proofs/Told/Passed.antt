@@ -1,6 +1,6 @@
 -- What holds at each place of a program holds at each place where an import and an export are an export from the other module, and no call of
 -- `eval` and no scope comes or leaves.
-use Rattle.std.proofs.Common.{◌≡◌, ◌∙◌, ◌≤◌, ℕ, suc, ◌+◌, List, [], ◌++◌, false, true≢false, ◌||◌, Option, Some, refl, sym, ap, subst, arith}
+use Rattle.std.proofs.Common.{◌≡◌, ◌∙◌, ◌≤◌, ℕ, suc, List, [], ◌++◌, false, true≢false, ◌||◌, Option, Some, refl, sym, ap, subst, arith}
 use Rattle.js_syntax.specs.declared.node_kind.NodeKind.{NodeKind as Kind}
 use Rattle.js_syntax.specs.declared.node_kind.NodeKind.TheVariants.{ImportDeclaration as import_declaration, Specifiers as specifiers, ExportNamedDeclaration as export_named_declaration, ForeignSpecifier as foreign_specifier}
 use Rattle.js_syntax.specs.declared.scalar.SourceType.TheVariants as source_type

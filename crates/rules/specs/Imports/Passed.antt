@@ -1,6 +1,6 @@
 -- Which imports of a program's list become exports from the other module: each that a later export of names alone lists, and nothing else
 -- refers to.
-use Rattle.std.specs.Prelude.{ℕ, ◌==◌, List, [], ◌∷◌, codes, Bool, true, false, not, ◌&&◌, ◌||◌, Option, Some, None, is_some, if◌then◌else◌}
+use Rattle.std.specs.Prelude.{ℕ, ◌==◌, List, codes, Bool, true, false, not, ◌&&◌, ◌||◌, Option, Some, None, is_some, if◌then◌else◌}
 use Rattle.std.specs.List.{list_all}
 use Rattle.std.specs.Str.{bytes_eq}
 use Rattle.js_syntax.specs.declared.node_kind.NodeKind.{NodeKind as Kind}
