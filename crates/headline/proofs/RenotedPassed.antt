@@ -1,5 +1,5 @@
 -- Whether an import of a program may become an export from its module doesn't see notes.
-use Rattle.std.proofs.Common.{◌≡◌, ◌∙◌, ℕ, List, Bool, true, false, ◌&&◌, ◌||◌, Some, None, refl, sym, ap, ap₂, subst}
+use Rattle.std.proofs.Common.{◌≡◌, ◌∙◌, ℕ, List, true, false, ◌&&◌, ◌||◌, Some, None, refl, sym, ap, ap₂, subst}
 use Rattle.std.specs.Str.{bytes_eq}
 use Rattle.js_syntax.specs.declared.node_kind.NodeKind.{NodeKind as Kind}
 use Rattle.js_syntax.specs.declared.node_kind.NodeKind.TheVariants.{Program as program, Statements as statements, ImportDeclaration as import_declaration, Specifiers as specifiers, ImportSpecifier as import_specifier, ImportDefaultSpecifier as import_default_specifier, ImportNamespaceSpecifier as import_namespace_specifier, BindingName as binding_name, ReferenceName as reference_name, ExportNamedDeclaration as export_named_declaration, ExportAllDeclaration as export_all_declaration, ExportSpecifier as export_specifier}
@@ -15,7 +15,7 @@ use Rattle.steps.specs.Allowed.MergedImports.{are_names}
 use Rattle.steps.specs.Allowed.PassedExports.{AreFree, Binds, binds_export, binds_default, binds_behind, lists, lists_each, Passes, passes_none, passes_one, may_pass, PassedOn, names_passed_on, namespace_passed_on, WithoutExport, export_leaves, leaves_behind, PassesIn, passes_here, passes_behind, PassedExports, exports_pass}
 use Rattle.steps.specs.Allowed.Places.{has_node}
 use Rattle.steps.proofs.Owed.ExposedBare.{bare_below}
-use Rattle.headline.proofs.RenotedImports.{names_bare, AsNode, as_node, as_nothing, as_import}
+use Rattle.headline.proofs.RenotedImports.{names_bare, as_node, as_nothing, as_import}
 use Rattle.headline.proofs.RenotedSites.{free_as}
 
 -- ---- whether an import's names pass
