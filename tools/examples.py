@@ -497,7 +497,7 @@ S("import { a, b } from 'm'; use(a);",[IMPORT('m',NAMED('a'),NAMED('b')),use(a)]
 S("import { a, b as c, d } from 'm'; use(c); whose names stand in order",[IMPORT('m',NAMED('a'),NAMED('c','b'),NAMED('d')),use(c)],[IMPORT('m',NAMED('c','b')),use(c)],1,1)
 S("import a, { b } from 'm'; import c, * as o from 'n'; use(b); use(o);",[IMPORT('m',DEFAULT('a'),NAMED('b')),IMPORT('n',DEFAULT('c'),ALL('o')),use(b),use(o)],[IMPORT('m',NAMED('b')),IMPORT('n',ALL('o')),use(b),use(o)],1,2)
 S("import a from 'm'; import * as b from 'n'; import {} from 'o'; whose modules are loaded as before",[IMPORT('m',DEFAULT('a')),IMPORT('n',ALL('b')),IMPORT('o')],[IMPORT('m'),IMPORT('n'),IMPORT('o')],1,0)
-S("import { a, b } from 'm'; export { a }; export * from 'n';",[IMPORT('m',NAMED('a'),NAMED('b')),exports('a'),N('ExportAllDeclaration',exported=None,source=L('n'))],[IMPORT('m',NAMED('a')),exports('a'),N('ExportAllDeclaration',exported=None,source=L('n'))],1,1)
+S("import { a, b } from 'm'; export { a }; use(a); export * from 'n';",[IMPORT('m',NAMED('a'),NAMED('b')),exports('a'),use(a),N('ExportAllDeclaration',exported=None,source=L('n'))],[IMPORT('m',NAMED('a')),exports('a'),use(a),N('ExportAllDeclaration',exported=None,source=L('n'))],1,2)
 S("import { a, b } from 'm'; export { b } from 'm'; which exports what it names of the other module",[IMPORT('m',NAMED('a'),NAMED('b')),N('ExportNamedDeclaration',declaration=None,specifiers=[N('ExportSpecifier',local=b,exported=b)],source=L('m'))],[IMPORT('m'),N('ExportNamedDeclaration',declaration=None,specifiers=[N('ExportSpecifier',local=b,exported=b)],source=L('m'))],1,0)
 S("import { a } from 'm'; eval('a'); which may use each name",[IMPORT('m',NAMED('a')),do('eval',L('a'))],None,0,0)
 S("import { a } from 'm'; use(typeof a); export function h() { return a; } a; of which two uses stay",[IMPORT('m',NAMED('a')),use(un('typeof',a)),export(F_('h',[],RETURN(a))),ES(a)],[IMPORT('m',NAMED('a')),use(un('typeof',a)),export(F_('h',[],RETURN(a)))],1,2)
@@ -535,6 +535,39 @@ S("import { a } from 'x'; import { b } from 'x'; export { a, b }; export functio
 S("export { b } from 'x'; import { a } from 'x'; use(a); which is no import",[FROM_X,IMPORT('x',NAMED('a')),use(a)],None,0,1)
 S("import 'x'; export {};",[IMPORT('x'),exports()],None,0,0)
 S("import { a } from 'x'; import { b } from 'x'; eval('a'); which sees their names in order",[IMPORT('x',NAMED('a')),IMPORT('x',NAMED('b')),do('eval',L('a'))],None,0,0)
+
+# imports that only feed exports: ECMA-262 16.2.3.7
+def SPEC(local,exported): return N('ExportSpecifier',local=local,exported=exported)
+def LISTS(*pairs): return N('ExportNamedDeclaration',declaration=None,specifiers=[SPEC(I(l),I(e)) for l,e in pairs],source=None)
+def FROM(source,*pairs): return N('ExportNamedDeclaration',declaration=None,specifiers=[SPEC(I(l),I(e)) for l,e in pairs],source=L(source))
+def ALL_AS(exported,source): return N('ExportAllDeclaration',exported=I(exported),source=L(source))
+S("import { a } from 'x'; export { a as b };",[IMPORT('x',NAMED('a')),LISTS('ab')],[FROM('x','ab')],1,0)
+S("import { a as c, b } from 'x'; export { b, c as d, b as e }; in the order of the export",[IMPORT('x',NAMED('c','a'),NAMED('b')),LISTS('bb','cd','be')],[FROM('x','bb','ad','be')],1,0)
+S("import a, { b } from 'x'; export { b, a as c };",[IMPORT('x',DEFAULT('a'),NAMED('b')),LISTS('bb','ac')],[FROM('x','bb',('default','c'))],1,0)
+S("import { 'a b' as a } from 'x'; export { a as 'c d' };",[IMPORT('x',N('ImportSpecifier',imported=L('a b'),local=a)),N('ExportNamedDeclaration',declaration=None,specifiers=[SPEC(a,L('c d'))],source=None)],[N('ExportNamedDeclaration',declaration=None,specifiers=[SPEC(L('a b'),L('c d'))],source=L('x'))],1,0)
+S("import * as a from 'x'; export { a as b };",[IMPORT('x',ALL('a')),LISTS('ab')],[ALL_AS('b','x')],1,0)
+S("import * as a from 'x'; export { a, a as b }; which one export can't list",[IMPORT('x',ALL('a')),LISTS('aa','ab')],None,0,2)
+S("import a, * as b from 'x'; export { a, b }; whose namespace isn't alone",[IMPORT('x',DEFAULT('a'),ALL('b')),LISTS('aa','bb')],None,0,2)
+S("import { a } from 'x'; export { a }; use(a); which is used besides",[IMPORT('x',NAMED('a')),LISTS('aa'),use(a)],None,0,2)
+S("import { a } from 'x'; export { a }; export function h() { return a; }",[IMPORT('x',NAMED('a')),LISTS('aa'),export(F_('h',[],RETURN(a)))],None,0,2)
+S("import { a, b } from 'x'; export { a }; use(b); which lists one of two",[IMPORT('x',NAMED('a'),NAMED('b')),LISTS('aa'),use(b)],None,0,2)
+S("import { a, b } from 'x'; export { a }; export { b };",[IMPORT('x',NAMED('a'),NAMED('b')),LISTS('aa'),LISTS('bb')],None,0,2)
+S("import { a } from 'x'; export { a }; export { a as b };",[IMPORT('x',NAMED('a')),LISTS('aa'),LISTS('ab')],None,0,2)
+S("import { a } from 'x'; let b = f(); export { a, b }; which lists another besides",[IMPORT('x',NAMED('a')),var('let',(b,call(f))),LISTS('aa','bb')],None,0,2)
+S("import { a } from 'x'; import { b } from 'y'; export { a, b }; of two modules",[IMPORT('x',NAMED('a')),IMPORT('y',NAMED('b')),LISTS('aa','bb')],None,0,2)
+S("export { a }; import { a } from 'x'; whose export stands before it",[LISTS('aa'),IMPORT('x',NAMED('a'))],None,0,1)
+S("import { a } from 'x'; eval('a'); export { a }; which may use the name",[IMPORT('x',NAMED('a')),do('eval',L('a')),LISTS('aa')],None,0,1)
+S("import { a, b } from 'x'; export { a }; which loses a name first",[IMPORT('x',NAMED('a'),NAMED('b')),LISTS('aa')],[FROM('x','aa')],1,0)
+S("import { a } from 'x'; use(0 && a); export { a }; whose other use goes first",[IMPORT('x',NAMED('a')),use(AND(L(0),a)),LISTS('aa')],[FROM('x','aa'),use(L(0))],2,0)
+S("use(1); import { a } from 'x'; import 'y'; use(2); export { a }; use(3); at the place of the import",[use(L(1)),IMPORT('x',NAMED('a')),IMPORT('y'),use(L(2)),LISTS('aa'),use(L(3))],[use(L(1)),FROM('x','aa'),IMPORT('y'),use(L(2)),use(L(3))],1,0)
+S("import { a } from 'x'; import * as o from 'z'; import { b } from 'y'; export { b as c }; use(o); export { a as d }; each at its own",[IMPORT('x',NAMED('a')),IMPORT('z',ALL('o')),IMPORT('y',NAMED('b')),LISTS('bc'),use(I('o')),LISTS('ad')],[FROM('x','ad'),IMPORT('z',ALL('o')),FROM('y','bc'),use(I('o'))],1,1)
+S("import { a } from 'x'; import { b } from 'x'; export { a, b }; which come together first",[IMPORT('x',NAMED('a')),IMPORT('x',NAMED('b')),LISTS('aa','bb')],[FROM('x','aa','bb')],2,0)
+S("import { a } from 'x'; import { b } from 'x'; export { b }; export { a }; of which each lists one then",[IMPORT('x',NAMED('a')),IMPORT('x',NAMED('b')),LISTS('bb'),LISTS('aa')],[IMPORT('x',NAMED('a'),NAMED('b')),LISTS('bb'),LISTS('aa')],1,2)
+S("import 'x'; import { a } from 'x'; export { a };",[IMPORT('x'),IMPORT('x',NAMED('a')),LISTS('aa')],[FROM('x','aa')],2,0)
+S("import { a } from 'x'; export { a }; import 'x'; whose second request goes",[IMPORT('x',NAMED('a')),LISTS('aa'),IMPORT('x')],[FROM('x','aa')],1,0)
+S("import { a } from 'x'; export { a }; export { b } from 'x'; of which both stay apart",[IMPORT('x',NAMED('a')),LISTS('aa'),FROM('x','bb')],[FROM('x','aa'),FROM('x','bb')],1,0)
+S("import { a } from 'x'; export { a as default };",[IMPORT('x',NAMED('a')),LISTS(('a','default'))],[FROM('x',('a','default'))],1,0)
+S("import { a } from 'x'; { let a = f(); use(a); } export { a }; whose other a is another",[IMPORT('x',NAMED('a')),B(var('let',(a,call(f))),use(a)),LISTS('aa')],[FROM('x','aa'),B(var('let',(a,call(f))),use(a))],1,1)
 
 
 # What one pass leaves of a statement, or `None` where it leaves it alone, with the passes and references that are counted.
@@ -758,6 +791,10 @@ def rows():
     yield "and an import without names is none of it: import { a } from 'm'; import 'm';", [
         ('call imports:', prog(again), 'passes 1 scopes 1\n%s\n' % text(prog(again[:1]))),
         ('call safest:', prog(again), 'passes 1 scopes 1\n%s\n' % text(prog(again[:1])))]
+    passed = [IMPORT('m', NAMED('a')), LISTS('aa')]
+    yield "nor one that only feeds an export: import { a } from 'm'; export { a };", [
+        ('call imports:', prog(passed), 'passes 1 scopes 1\n%s\n' % text(prog([FROM('m', 'aa')]))),
+        ('call safest:', prog(passed), 'passes 1 scopes 1\n%s\n' % text(prog([FROM('m', 'aa')])))]
     loop = lambda *body: N('WhileStatement', test=a, body=B(*body, CALL))
     yield 'the scopes are those of what is left: let x; { ; } () => { x; }; and, with while (a) { ; f(); } as well', [
         ('call dce:', prog([LET_X, B(EMPTY), ES(ARROW(ES(x)))]), 'passes 2 scopes 1\n%s\n' % text(prog([]))),

@@ -6,9 +6,15 @@
 //! up in one go: n log n steps in the number of its items. Where nothing leaves, and where memory is short, nothing is touched.
 #![tactic(auto)]
 
+mod listed;
 mod merged;
 mod names;
+mod passed;
+mod passing;
 mod repeated;
+mod uses;
 
 pub use merged::merge_imports;
+pub use passing::{Passing, pass_on, plan_passing};
 pub use repeated::drop_repeated;
+pub use uses::Uses;

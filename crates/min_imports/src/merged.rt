@@ -17,7 +17,7 @@ use std::collections::BTreeSet;
 
 // ---- imports, and their names
 
-fn imported_from(kind: &NodeKind) -> Option<&str>
+pub(crate) fn imported_from(kind: &NodeKind) -> Option<&str>
     ensures { option_map (λ s. s.now) result ≡ imported_from kind.now }
 {
     match kind {
@@ -55,7 +55,7 @@ fn names_in(list: &Node) -> Option<&[Option<Node>]>
     }
 }
 
-fn names_of(children: &[Option<Node>]) -> Option<&[Option<Node>]>
+pub(crate) fn names_of(children: &[Option<Node>]) -> Option<&[Option<Node>]>
     ensures { option_map (λ s. row s.now) result ≡ names_of (row children.now) }
 {
     match children {
@@ -93,7 +93,7 @@ fn takes(source: &str, later: &[Option<Node>], node: &Node) -> bool
 }
 
 // An item as it will be.
-fn as_changed<'a>(item: &'a Option<Node>, changed: &'a Option<Node>) -> &'a Option<Node>
+pub(crate) fn as_changed<'a>(item: &'a Option<Node>, changed: &'a Option<Node>) -> &'a Option<Node>
     ensures { result.now ≡ or_changed item.now changed.now }
 {
     match changed {
@@ -324,7 +324,7 @@ fn item_goes<'a>(
     Ok(is_gone)
 }
 
-fn is_missing(item: &Option<Node>) -> bool
+pub(crate) fn is_missing(item: &Option<Node>) -> bool
     ensures { result ≡ is_missing item.now }
 {
     match item {
@@ -373,7 +373,7 @@ fn put_changed_one(item: &mut Option<Node>, changed: &mut Option<Node>)
     }
 }
 
-fn put_changed(items: &mut [Option<Node>], changed: &mut [Option<Node>])
+pub(crate) fn put_changed(items: &mut [Option<Node>], changed: &mut [Option<Node>])
     requires { length changed.old ≡ length items.old }
     ensures { items.new ≡ overlaid items.old changed.old }
 {

@@ -45,7 +45,7 @@ fn is_one_name(children: &[Option<Node>]) -> bool
     }
 }
 
-fn is_name(item: &Option<Node>) -> bool
+pub(crate) fn is_name(item: &Option<Node>) -> bool
     ensures { result ≡ merging.are_names (row (item.now ∷ [])) }
 {
     match item {

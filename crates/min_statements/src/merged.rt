@@ -35,7 +35,7 @@ fn is_outermost(above: &[Ancestor]) -> bool
 }
 
 // In a module, unless a direct call of `eval` is anywhere in it.
-fn may_come_together(names: &Statements, node: &Node, ctx: &MinifierTraverseCtx) -> bool
+pub(crate) fn may_come_together(names: &Statements, node: &Node, ctx: &MinifierTraverseCtx) -> bool
     ensures { result ≡ (is_module node.now.kind && (rules.is_outermost ctx.now.place.ancestors && not (scope_has (facts_of names.now ctx.now).scoping 0 scope_flag.direct_eval))) }
 {
     is_module(node.kind())
@@ -44,7 +44,7 @@ fn may_come_together(names: &Statements, node: &Node, ctx: &MinifierTraverseCtx)
 
 // ---- and the list in which they do
 
-fn is_statements(kind: &NodeKind) -> bool
+pub(crate) fn is_statements(kind: &NodeKind) -> bool
     ensures { result ≡ is_statements kind.now }
 {
     matches!(kind, NodeKind::Statements)

@@ -9,6 +9,7 @@ use crate::ifs::try_fold_if;
 use crate::imports::{remove_repeated_imports, remove_unused_import_specifiers};
 use crate::merged::merge_module_imports;
 use crate::stated::state_value;
+use crate::passed::merge_import_export;
 use crate::trimmed::trim_statements;
 use exported_names::{bound_references, exported_symbols};
 use js_syntax::SourceType;
@@ -150,7 +151,10 @@ impl Traverse for Statements {
         node: &mut Node,
         ctx: &mut MinifierTraverseCtx,
     ) -> Result<(), AllocError> {
-        merge_module_imports(self, node, ctx)?;
+        if merge_module_imports(self, node, ctx)? {
+            return Ok(());
+        }
+        merge_import_export(self, node, ctx)?;
         Ok(())
     }
 }

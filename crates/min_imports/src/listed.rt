@@ -1,0 +1,238 @@
+// What an export lists, and whether it lists the names of an import.
+ghost use Rattle.std.specs.Prelude.{◌≡◌, ℕ, [], ◌∷◌, ◌||◌, ◌&&◌, map, OnOk, IfOk};
+ghost use Rattle.std.specs.List.{list_all};
+ghost use Rattle.std.specs.Option.{option_map};
+ghost use Rattle.js_syntax.specs.Node.{row};
+ghost use Rattle.scope_table.specs.Reading.{symbol_at};
+ghost use Rattle.steps.specs.Allowed.PassedExports as passing;
+ghost use Rattle.rules.specs.Imports.Passed as rules;
+ghost use Rattle.min_imports.specs.Passing.{first_below, reference_text, reference_id, binding_text, listed_text, listed_id, bound_text, bound_id, has_text, has_number, Told, name_passes};
+
+use crate::names::is_name;
+use crate::uses::Uses;
+use js_effects::is_marked;
+use js_syntax::{NodeKind, ReferenceId, SymbolId};
+use js_tree::Node;
+use scope_table::Scoping;
+use std::alloc::{AllocError, Global};
+use std::collections::BTreeSet;
+
+// ---- names
+
+fn first_child(children: &[Option<Node>]) -> Option<&Node>
+    ensures { option_map (λ n. n.now) result ≡ first_below (row children.now) }
+{
+    match children {
+        [Some(name), ..] => Some(name),
+        [None, ..] => None,
+        [] => None,
+    }
+}
+
+fn reference_text(kind: &NodeKind) -> Option<&str>
+    ensures { option_map (λ s. s.now) result ≡ reference_text kind.now }
+{
+    match kind {
+        NodeKind::ReferenceName(text) => Some(text.as_str()),
+        _ => None,
+    }
+}
+
+fn binding_text(kind: &NodeKind) -> Option<&str>
+    ensures { option_map (λ s. s.now) result ≡ binding_text kind.now }
+{
+    match kind {
+        NodeKind::BindingName(text) => Some(text.as_str()),
+        _ => None,
+    }
+}
+
+fn listed_below(children: &[Option<Node>]) -> Option<&str>
+    ensures { option_map (λ s. s.now) result ≡ listed_text (row children.now) }
+{
+    match first_child(children) {
+        Some(name) => reference_text(name.kind()),
+        None => None,
+    }
+}
+
+/// The name to which a specifier of an export refers.
+pub(crate) fn listed_text(item: &Option<Node>) -> Option<&str>
+{
+    match item {
+        Some(specifier) => listed_below(specifier.children()),
+        None => None,
+    }
+}
+
+fn reference_of(name: &Node) -> Option<u32>
+{
+    match name.kind() {
+        NodeKind::ReferenceName(_) => name.id(),
+        _ => None,
+    }
+}
+
+fn reference_below(children: &[Option<Node>]) -> Option<u32>
+{
+    match first_child(children) {
+        Some(name) => reference_of(name),
+        None => None,
+    }
+}
+
+fn listed_reference(item: &Option<Node>) -> Option<u32>
+{
+    match item {
+        Some(specifier) => reference_below(specifier.children()),
+        None => None,
+    }
+}
+
+fn bound_below(children: &[Option<Node>]) -> Option<&str>
+{
+    match first_child(children) {
+        Some(name) => binding_text(name.kind()),
+        None => None,
+    }
+}
+
+/// The name that a specifier of an import binds.
+pub(crate) fn bound_text(item: &Option<Node>) -> Option<&str>
+{
+    match item {
+        Some(specifier) => bound_below(specifier.children()),
+        None => None,
+    }
+}
+
+fn symbol_of(name: &Node) -> Option<u32>
+{
+    match name.kind() {
+        NodeKind::BindingName(_) => name.id(),
+        _ => None,
+    }
+}
+
+fn symbol_below(children: &[Option<Node>]) -> Option<u32>
+{
+    match first_child(children) {
+        Some(name) => symbol_of(name),
+        None => None,
+    }
+}
+
+fn bound_symbol(item: &Option<Node>) -> Option<u32>
+{
+    match item {
+        Some(specifier) => symbol_below(specifier.children()),
+        None => None,
+    }
+}
+
+// ---- what is listed
+
+/// What an export of names alone lists: its specifiers, the names to which they refer, and the references.
+#[derive(Drop)]
+pub(crate) struct Listed<'a> {
+    pub(crate) specifiers: &'a [Option<Node>],
+    pub(crate) texts: BTreeSet<&'a str>,
+    pub(crate) references: BTreeSet<u32>,
+}
+
+fn add_text<'a>(texts: &mut BTreeSet<&'a str>, item: &'a Option<Node>) -> Result<(), AllocError>
+{
+    if let Some(text) = listed_text(item) {
+        texts.insert(text)?;
+    }
+    Ok(())
+}
+
+fn add_reference(references: &mut BTreeSet<u32>, item: &Option<Node>) -> Result<(), AllocError>
+{
+    if let Some(id) = listed_reference(item) {
+        references.insert(id)?;
+    }
+    Ok(())
+}
+
+/// What the specifiers of an export list.
+pub(crate) fn listed<'a>(
+    alloc: Global,
+    specifiers: &'a [Option<Node>],
+) -> Result<Listed<'a>, AllocError>
+{
+    let mut texts = BTreeSet::new(alloc);
+    let mut references = BTreeSet::new(alloc);
+    for item in specifiers {
+        add_text(&mut texts, item)?;
+        add_reference(&mut references, item)?;
+    }
+    Ok(Listed {
+        specifiers,
+        texts,
+        references,
+    })
+}
+
+// ---- whether the names of an import are listed, and nothing else refers to them
+
+fn references_to(scoping: &Scoping, symbol: u32) -> &[ReferenceId]
+{
+    if (symbol as usize) < scoping.symbols_len() {
+        scoping.get_resolved_reference_ids(SymbolId(symbol))
+    } else {
+        &[]
+    }
+}
+
+fn is_listed(listed: &Listed, reference: ReferenceId) -> bool
+{
+    listed.references.contains(&reference.0)
+}
+
+fn are_listed(listed: &Listed, references: &[ReferenceId]) -> bool
+{
+    for reference in references {
+        if !is_listed(listed, *reference) {
+            return false;
+        }
+    }
+    true
+}
+
+fn is_passed_alone(uses: &Uses, listed: &Listed, symbol: Option<u32>) -> bool
+{
+    match symbol {
+        Some(number) => {
+            !is_marked(uses.exported, symbol)
+                && are_listed(listed, references_to(uses.scoping, number))
+        }
+        None => false,
+    }
+}
+
+fn is_text_listed(listed: &Listed, item: &Option<Node>) -> bool
+{
+    match bound_text(item) {
+        Some(text) => listed.texts.contains(&text),
+        None => false,
+    }
+}
+
+fn name_passes(uses: &Uses, listed: &Listed, item: &Option<Node>) -> bool
+{
+    is_name(item)
+        && (is_text_listed(listed, item) && is_passed_alone(uses, listed, bound_symbol(item)))
+}
+
+/// Whether an import binds names, and an export lists each, to which nothing else refers.
+pub(crate) fn names_pass(uses: &Uses, listed: &Listed, names: &[Option<Node>]) -> bool
+{
+    for item in names {
+        if !name_passes(uses, listed, item) {
+            return false;
+        }
+    }
+    !names.is_empty()
+}

@@ -1,0 +1,397 @@
+// What an import becomes whose names an export lists.
+
+use crate::listed::{Listed, bound_text, names_pass};
+use crate::merged::imported_from;
+use crate::repeated::is_nothing;
+use crate::uses::Uses;
+use form_names::is_identifier_name;
+use js_syntax::{Ident, ModuleName, NodeKind, Text};
+use js_tree::Node;
+use std::alloc::{AllocError, Global};
+use std::collections::BTreeMap;
+
+// ---- names of modules' exports
+
+fn clone_name(alloc: Global, name: &ModuleName) -> Result<ModuleName, AllocError>
+{
+    match name {
+        ModuleName::Name(name) => Ok(ModuleName::Name(name.try_clone(alloc)?)),
+        ModuleName::Text(text) => Ok(ModuleName::Text(text.try_clone(alloc)?)),
+    }
+}
+
+fn is_exact(name: &ModuleName) -> bool
+{
+    match name {
+        ModuleName::Name(name) => is_identifier_name(name.as_str()),
+        ModuleName::Text(_) => true,
+    }
+}
+
+// Whether what binds a name binds it to an export that is named as it may be.
+fn imports_one(kind: &NodeKind) -> bool
+{
+    match kind {
+        NodeKind::ImportSpecifier(name) => is_exact(name),
+        NodeKind::ImportDefaultSpecifier => true,
+        _ => false,
+    }
+}
+
+fn default_name(alloc: Global) -> Result<ModuleName, AllocError>
+{
+    let name = String::from_str(alloc, "default")?;
+    Ok(ModuleName::Name(Ident::new(name)))
+}
+
+// The export to which it binds one.
+fn imported(alloc: Global, kind: &NodeKind) -> Result<ModuleName, AllocError>
+{
+    match kind {
+        NodeKind::ImportSpecifier(name) => clone_name(alloc, name),
+        _ => default_name(alloc),
+    }
+}
+
+// ---- the names of an import
+
+fn kind_of(item: &Option<Node>) -> Option<&NodeKind>
+{
+    match item {
+        Some(node) => Some(node.kind()),
+        None => None,
+    }
+}
+
+fn bind<'a>(
+    names: &mut BTreeMap<&'a str, &'a NodeKind>,
+    text: &'a str,
+    kind: &'a NodeKind,
+) -> Result<(), AllocError>
+{
+    if imports_one(kind) {
+        names.insert(text, kind)?;
+    }
+    Ok(())
+}
+
+fn bind_item<'a>(
+    names: &mut BTreeMap<&'a str, &'a NodeKind>,
+    item: &'a Option<Node>,
+) -> Result<(), AllocError>
+{
+    let Some(kind) = kind_of(item) else {
+        return Ok(());
+    };
+    let Some(text) = bound_text(item) else {
+        return Ok(());
+    };
+    bind(names, text, kind)?;
+    Ok(())
+}
+
+// From the last to the first, so that the first of a text is found.
+fn bound_names<'a>(
+    alloc: Global,
+    names: &'a [Option<Node>],
+) -> Result<BTreeMap<&'a str, &'a NodeKind>, AllocError>
+{
+    let mut bound = BTreeMap::new(alloc);
+    let mut at = names.len();
+    while at > 0 {
+        at -= 1;
+        bind_item(&mut bound, &names[at])?;
+    }
+    Ok(bound)
+}
+
+// ---- the names that are listed
+
+fn foreign(
+    alloc: Global,
+    specifier: &Node,
+    exported: &ModuleName,
+    kind: &NodeKind,
+) -> Result<Node, AllocError>
+{
+    let local = imported(alloc, kind)?;
+    let exported = clone_name(alloc, exported)?;
+    let mut node = Node::new(
+        NodeKind::ForeignSpecifier { local, exported },
+        specifier.span(),
+        Vec::new(alloc),
+    );
+    node.set_id(specifier.id());
+    Ok(node)
+}
+
+// The name to which a specifier refers that has nothing else.
+fn name_alone(name: &Node) -> Option<&str>
+{
+    match name.kind() {
+        NodeKind::ReferenceName(text) => {
+            if is_nothing(name.children()) {
+                Some(text.as_str())
+            } else {
+                None
+            }
+        }
+        _ => None,
+    }
+}
+
+fn reference_alone(children: &[Option<Node>]) -> Option<&str>
+{
+    match children {
+        [Some(name)] => name_alone(name),
+        [Some(_), _, ..] => None,
+        [None, ..] => None,
+        [] => None,
+    }
+}
+
+fn passed_name(
+    alloc: Global,
+    bound: &BTreeMap<&str, &NodeKind>,
+    specifier: &Node,
+    exported: &ModuleName,
+) -> Result<Option<Node>, AllocError>
+{
+    let Some(text) = reference_alone(specifier.children()) else {
+        return Ok(None);
+    };
+    match bound.get(&text) {
+        Some(kind) => Ok(Some(foreign(alloc, specifier, exported, kind)?)),
+        None => Ok(None),
+    }
+}
+
+fn passed_one(
+    alloc: Global,
+    bound: &BTreeMap<&str, &NodeKind>,
+    specifier: &Node,
+) -> Result<Option<Node>, AllocError>
+{
+    match specifier.kind() {
+        NodeKind::ExportSpecifier(exported) => passed_name(alloc, bound, specifier, exported),
+        _ => Ok(None),
+    }
+}
+
+fn passed_item(
+    alloc: Global,
+    bound: &BTreeMap<&str, &NodeKind>,
+    item: &Option<Node>,
+) -> Result<Option<Node>, AllocError>
+{
+    match item {
+        Some(specifier) => passed_one(alloc, bound, specifier),
+        None => Ok(None),
+    }
+}
+
+fn passed_all(
+    alloc: Global,
+    bound: &BTreeMap<&str, &NodeKind>,
+    specifiers: &[Option<Node>],
+) -> Result<Option<Vec<Option<Node>>>, AllocError>
+{
+    let mut passed = Vec::new(alloc);
+    for item in specifiers {
+        let Some(name) = passed_item(alloc, bound, item)? else {
+            return Ok(None);
+        };
+        passed.push(Some(name))?;
+    }
+    Ok(Some(passed))
+}
+
+fn passed(
+    alloc: Global,
+    names: &[Option<Node>],
+    specifiers: &[Option<Node>],
+) -> Result<Option<Vec<Option<Node>>>, AllocError>
+{
+    let bound = bound_names(alloc, names)?;
+    let passed = passed_all(alloc, &bound, specifiers)?;
+    Ok(passed)
+}
+
+// ---- a namespace
+
+fn is_namespace(names: &[Option<Node>]) -> bool
+{
+    match names {
+        [Some(name)] => matches!(name.kind(), NodeKind::ImportNamespaceSpecifier),
+        [Some(_), _, ..] => false,
+        [None, ..] => false,
+        [] => false,
+    }
+}
+
+fn exported_as(kind: &NodeKind) -> Option<&ModuleName>
+{
+    match kind {
+        NodeKind::ExportSpecifier(exported) => Some(exported),
+        _ => None,
+    }
+}
+
+fn only_exported(specifiers: &[Option<Node>]) -> Option<&ModuleName>
+{
+    match specifiers {
+        [Some(specifier)] => exported_as(specifier.kind()),
+        [Some(_), _, ..] => None,
+        [None, ..] => None,
+        [] => None,
+    }
+}
+
+fn namespace_passed<'a>(
+    names: &[Option<Node>],
+    specifiers: &'a [Option<Node>],
+) -> Option<&'a ModuleName>
+{
+    if is_namespace(names) {
+        only_exported(specifiers)
+    } else {
+        None
+    }
+}
+
+// ---- an import
+
+fn export_all(
+    alloc: Global,
+    source: &str,
+    import: &Node,
+    exported: &ModuleName,
+) -> Result<Node, AllocError>
+{
+    let source = Text::new(String::from_str(alloc, source)?);
+    let exported = Some(clone_name(alloc, exported)?);
+    let mut node = Node::new(
+        NodeKind::ExportAllDeclaration { exported, source },
+        import.span(),
+        Vec::new(alloc),
+    );
+    node.set_id(import.id());
+    Ok(node)
+}
+
+fn list_of(list: &Node, passed: Vec<Option<Node>>) -> Node
+{
+    let mut node = Node::new(NodeKind::Specifiers, list.span(), passed);
+    node.set_id(list.id());
+    node
+}
+
+fn export_named(
+    alloc: Global,
+    source: &str,
+    import: &Node,
+    list: Node,
+) -> Result<Node, AllocError>
+{
+    let source = Text::new(String::from_str(alloc, source)?);
+    let mut children = Vec::new(alloc);
+    children.push(None)?;
+    children.push(Some(list))?;
+    let mut node = Node::new(
+        NodeKind::ExportNamedDeclaration(Some(source)),
+        import.span(),
+        children,
+    );
+    node.set_id(import.id());
+    Ok(node)
+}
+
+fn names_passed(
+    alloc: Global,
+    source: &str,
+    import: &Node,
+    list: &Node,
+    specifiers: &[Option<Node>],
+) -> Result<Option<Node>, AllocError>
+{
+    match passed(alloc, list.children(), specifiers)? {
+        Some(passed) => Ok(Some(export_named(alloc, source, import, list_of(list, passed))?)),
+        None => Ok(None),
+    }
+}
+
+fn export_of(
+    alloc: Global,
+    source: &str,
+    import: &Node,
+    list: &Node,
+    specifiers: &[Option<Node>],
+) -> Result<Option<Node>, AllocError>
+{
+    match namespace_passed(list.children(), specifiers) {
+        Some(exported) => Ok(Some(export_all(alloc, source, import, exported)?)),
+        None => names_passed(alloc, source, import, list, specifiers),
+    }
+}
+
+fn list_among(children: &[Option<Node>]) -> Option<&Node>
+{
+    match children {
+        [Some(list)] => as_specifiers(list),
+        [Some(_), _, ..] => None,
+        [None, ..] => None,
+        [] => None,
+    }
+}
+
+fn as_specifiers(list: &Node) -> Option<&Node>
+{
+    match list.kind() {
+        NodeKind::Specifiers => Some(list),
+        _ => None,
+    }
+}
+
+fn import_passed(
+    alloc: Global,
+    uses: &Uses,
+    listed: &Listed,
+    source: &str,
+    import: &Node,
+) -> Result<Option<Node>, AllocError>
+{
+    let Some(list) = list_among(import.children()) else {
+        return Ok(None);
+    };
+    if !names_pass(uses, listed, list.children()) {
+        return Ok(None);
+    }
+    export_of(alloc, source, import, list, listed.specifiers)
+}
+
+fn passed_on(
+    alloc: Global,
+    uses: &Uses,
+    listed: &Listed,
+    node: &Node,
+) -> Result<Option<Node>, AllocError>
+{
+    match imported_from(node.kind()) {
+        Some(source) => import_passed(alloc, uses, listed, source, node),
+        None => Ok(None),
+    }
+}
+
+/// What an item becomes, if it is an import whose names an export lists, and to which nothing else refers.
+pub(crate) fn item_passed_on(
+    alloc: Global,
+    uses: &Uses,
+    listed: &Listed,
+    item: &Option<Node>,
+) -> Result<Option<Node>, AllocError>
+{
+    match item {
+        Some(node) => passed_on(alloc, uses, listed, node),
+        None => Ok(None),
+    }
+}
