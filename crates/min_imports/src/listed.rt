@@ -1,12 +1,13 @@
 // What an export lists, and whether it lists the names of an import.
-ghost use Rattle.std.specs.Prelude.{◌≡◌, ℕ, [], ◌∷◌, ◌||◌, ◌&&◌, map, OnOk, IfOk};
+ghost use Rattle.std.specs.Prelude.{◌≡◌, ℕ, List, [], ◌∷◌, ◌||◌, ◌&&◌, map, OnOk, IfOk};
 ghost use Rattle.std.specs.List.{list_all};
 ghost use Rattle.std.specs.Option.{option_map};
 ghost use Rattle.js_syntax.specs.Node.{row};
 ghost use Rattle.scope_table.specs.Reading.{symbol_at};
-ghost use Rattle.steps.specs.Allowed.PassedExports as passing;
+ghost use Rattle.steps.specs.Allowed.PassedExports.{lists, may_pass};
 ghost use Rattle.rules.specs.Imports.Passed as rules;
-ghost use Rattle.min_imports.specs.Passing.{first_below, reference_text, reference_id, binding_text, listed_text, listed_id, bound_text, bound_id, has_text, has_number, Told, name_passes};
+ghost use Rattle.rules.specs.Imports.Passed.{has_reference};
+ghost use Rattle.min_imports.specs.Passing.{first_below, reference_text, reference_id, binding_text, binding_id, listed_below, listed_text, reference_below, listed_reference, bound_below, bound_text, symbol_below, bound_symbol, has_text, has_number, Told, text_is_listed, name_passes};
 
 use crate::names::is_name;
 use crate::uses::Uses;
@@ -48,7 +49,7 @@ fn binding_text(kind: &NodeKind) -> Option<&str>
 }
 
 fn listed_below(children: &[Option<Node>]) -> Option<&str>
-    ensures { option_map (λ s. s.now) result ≡ listed_text (row children.now) }
+    ensures { option_map (λ s. s.now) result ≡ listed_below (row children.now) }
 {
     match first_child(children) {
         Some(name) => reference_text(name.kind()),
@@ -58,6 +59,7 @@ fn listed_below(children: &[Option<Node>]) -> Option<&str>
 
 /// The name to which a specifier of an export refers.
 pub(crate) fn listed_text(item: &Option<Node>) -> Option<&str>
+    ensures { option_map (λ s. s.now) result ≡ listed_text item.now }
 {
     match item {
         Some(specifier) => listed_below(specifier.children()),
@@ -66,6 +68,7 @@ pub(crate) fn listed_text(item: &Option<Node>) -> Option<&str>
 }
 
 fn reference_of(name: &Node) -> Option<u32>
+    ensures { result ≡ reference_id name.now.kind name.now.note }
 {
     match name.kind() {
         NodeKind::ReferenceName(_) => name.id(),
@@ -74,6 +77,7 @@ fn reference_of(name: &Node) -> Option<u32>
 }
 
 fn reference_below(children: &[Option<Node>]) -> Option<u32>
+    ensures { result ≡ reference_below (row children.now) }
 {
     match first_child(children) {
         Some(name) => reference_of(name),
@@ -82,6 +86,7 @@ fn reference_below(children: &[Option<Node>]) -> Option<u32>
 }
 
 fn listed_reference(item: &Option<Node>) -> Option<u32>
+    ensures { result ≡ listed_reference item.now }
 {
     match item {
         Some(specifier) => reference_below(specifier.children()),
@@ -90,6 +95,7 @@ fn listed_reference(item: &Option<Node>) -> Option<u32>
 }
 
 fn bound_below(children: &[Option<Node>]) -> Option<&str>
+    ensures { option_map (λ s. s.now) result ≡ bound_below (row children.now) }
 {
     match first_child(children) {
         Some(name) => binding_text(name.kind()),
@@ -99,6 +105,7 @@ fn bound_below(children: &[Option<Node>]) -> Option<&str>
 
 /// The name that a specifier of an import binds.
 pub(crate) fn bound_text(item: &Option<Node>) -> Option<&str>
+    ensures { option_map (λ s. s.now) result ≡ bound_text item.now }
 {
     match item {
         Some(specifier) => bound_below(specifier.children()),
@@ -107,6 +114,7 @@ pub(crate) fn bound_text(item: &Option<Node>) -> Option<&str>
 }
 
 fn symbol_of(name: &Node) -> Option<u32>
+    ensures { result ≡ binding_id name.now.kind name.now.note }
 {
     match name.kind() {
         NodeKind::BindingName(_) => name.id(),
@@ -115,6 +123,7 @@ fn symbol_of(name: &Node) -> Option<u32>
 }
 
 fn symbol_below(children: &[Option<Node>]) -> Option<u32>
+    ensures { result ≡ symbol_below (row children.now) }
 {
     match first_child(children) {
         Some(name) => symbol_of(name),
@@ -123,6 +132,7 @@ fn symbol_below(children: &[Option<Node>]) -> Option<u32>
 }
 
 fn bound_symbol(item: &Option<Node>) -> Option<u32>
+    ensures { result ≡ bound_symbol item.now }
 {
     match item {
         Some(specifier) => symbol_below(specifier.children()),
@@ -141,6 +151,7 @@ pub(crate) struct Listed<'a> {
 }
 
 fn add_text<'a>(texts: &mut BTreeSet<&'a str>, item: &'a Option<Node>) -> Result<(), AllocError>
+    ensures { OnOk result ((x : List ℕ) → has_text texts.new x ≡ lists (row (item.now ∷ [])) x || has_text texts.old x) }
 {
     if let Some(text) = listed_text(item) {
         texts.insert(text)?;
@@ -149,6 +160,7 @@ fn add_text<'a>(texts: &mut BTreeSet<&'a str>, item: &'a Option<Node>) -> Result
 }
 
 fn add_reference(references: &mut BTreeSet<u32>, item: &Option<Node>) -> Result<(), AllocError>
+    ensures { OnOk result ((id : ℕ) → has_number references.new id ≡ has_reference (row (item.now ∷ [])) id || has_number references.old id) }
 {
     if let Some(id) = listed_reference(item) {
         references.insert(id)?;
@@ -157,10 +169,12 @@ fn add_reference(references: &mut BTreeSet<u32>, item: &Option<Node>) -> Result<
 }
 
 /// What the specifiers of an export list.
-pub(crate) fn listed<'a>(
+pub(crate) fn listed_by<'a>(
     alloc: Global,
     specifiers: &'a [Option<Node>],
 ) -> Result<Listed<'a>, AllocError>
+    ensures told { IfOk result (λ l. Told l.texts l.references (row specifiers.now)) }
+    ensures specifiers { IfOk result (λ l. l.specifiers.now ≡ specifiers.now) }
 {
     let mut texts = BTreeSet::new(alloc);
     let mut references = BTreeSet::new(alloc);
@@ -178,6 +192,7 @@ pub(crate) fn listed<'a>(
 // ---- whether the names of an import are listed, and nothing else refers to them
 
 fn references_to(scoping: &Scoping, symbol: u32) -> &[ReferenceId]
+    ensures { map (λ r. r.0) result.now ≡ (symbol_at scoping.now symbol).references }
 {
     if (symbol as usize) < scoping.symbols_len() {
         scoping.get_resolved_reference_ids(SymbolId(symbol))
@@ -187,11 +202,15 @@ fn references_to(scoping: &Scoping, symbol: u32) -> &[ReferenceId]
 }
 
 fn is_listed(listed: &Listed, reference: ReferenceId) -> bool
+    requires told { Told listed.now.texts listed.now.references (row listed.now.specifiers.now) }
+    ensures { result ≡ has_reference (row listed.now.specifiers.now) reference.0 }
 {
     listed.references.contains(&reference.0)
 }
 
 fn are_listed(listed: &Listed, references: &[ReferenceId]) -> bool
+    requires told { Told listed.now.texts listed.now.references (row listed.now.specifiers.now) }
+    ensures { result ≡ list_all (has_reference (row listed.now.specifiers.now)) (map (λ r. r.0) references.now) }
 {
     for reference in references {
         if !is_listed(listed, *reference) {
@@ -202,6 +221,8 @@ fn are_listed(listed: &Listed, references: &[ReferenceId]) -> bool
 }
 
 fn is_passed_alone(uses: &Uses, listed: &Listed, symbol: Option<u32>) -> bool
+    requires told { Told listed.now.texts listed.now.references (row listed.now.specifiers.now) }
+    ensures { result ≡ rules.is_passed_alone uses.now (row listed.now.specifiers.now) symbol }
 {
     match symbol {
         Some(number) => {
@@ -213,6 +234,8 @@ fn is_passed_alone(uses: &Uses, listed: &Listed, symbol: Option<u32>) -> bool
 }
 
 fn is_text_listed(listed: &Listed, item: &Option<Node>) -> bool
+    requires told { Told listed.now.texts listed.now.references (row listed.now.specifiers.now) }
+    ensures { result ≡ text_is_listed (row listed.now.specifiers.now) (bound_text item.now) }
 {
     match bound_text(item) {
         Some(text) => listed.texts.contains(&text),
@@ -221,6 +244,8 @@ fn is_text_listed(listed: &Listed, item: &Option<Node>) -> bool
 }
 
 fn name_passes(uses: &Uses, listed: &Listed, item: &Option<Node>) -> bool
+    requires told { Told listed.now.texts listed.now.references (row listed.now.specifiers.now) }
+    ensures { result ≡ name_passes uses.now (row listed.now.specifiers.now) item.now }
 {
     is_name(item)
         && (is_text_listed(listed, item) && is_passed_alone(uses, listed, bound_symbol(item)))
@@ -228,6 +253,8 @@ fn name_passes(uses: &Uses, listed: &Listed, item: &Option<Node>) -> bool
 
 /// Whether an import binds names, and an export lists each, to which nothing else refers.
 pub(crate) fn names_pass(uses: &Uses, listed: &Listed, names: &[Option<Node>]) -> bool
+    requires told { Told listed.now.texts listed.now.references (row listed.now.specifiers.now) }
+    ensures { result ≡ (may_pass (row names.now) (row listed.now.specifiers.now) && rules.are_passed_alone uses.now (row listed.now.specifiers.now) (row names.now)) }
 {
     for item in names {
         if !name_passes(uses, listed, item) {

@@ -1,4 +1,13 @@
 // What an import becomes whose names an export lists.
+ghost use Rattle.std.specs.Prelude.{◌≡◌, ℕ, List, [], ◌∷◌, ◌&&◌, Some, None, true, is_some, codes, IfOk, OnOk, if◌then◌else◌};
+ghost use Rattle.std.specs.Option.{option_map};
+ghost use Rattle.std.specs.Str.{bytes_eq};
+ghost use Rattle.js_syntax.specs.declared.node_kind.NodeKind.TheVariants.{ExportSpecifier as export_specifier, ExportAllDeclaration as export_all_declaration, ExportNamedDeclaration as export_named_declaration, Specifiers as specifiers};
+ghost use Rattle.js_syntax.specs.Node.{Forest, nothing, absent, row, forest_of, joined};
+ghost use Rattle.json_shape.specs.Exact.{is_exact_module_name};
+ghost use Rattle.rules.specs.Imports.Passed as rules;
+ghost use Rattle.min_imports.specs.Merging.{imported_from};
+ghost use Rattle.min_imports.specs.Passing.{Told, Bound, found_in, name_alone, reference_alone, is_namespace_alone, exported_as, only_exported, as_specifiers, list_among, item_passed_on};
 
 use crate::listed::{Listed, bound_text, names_pass};
 use crate::merged::imported_from;
@@ -13,6 +22,7 @@ use std::collections::BTreeMap;
 // ---- names of modules' exports
 
 fn clone_name(alloc: Global, name: &ModuleName) -> Result<ModuleName, AllocError>
+    ensures { IfOk result (λ n. n ≡ name.now) }
 {
     match name {
         ModuleName::Name(name) => Ok(ModuleName::Name(name.try_clone(alloc)?)),
@@ -21,6 +31,7 @@ fn clone_name(alloc: Global, name: &ModuleName) -> Result<ModuleName, AllocError
 }
 
 fn is_exact(name: &ModuleName) -> bool
+    ensures { result ≡ is_exact_module_name name.now }
 {
     match name {
         ModuleName::Name(name) => is_identifier_name(name.as_str()),
@@ -30,6 +41,7 @@ fn is_exact(name: &ModuleName) -> bool
 
 // Whether what binds a name binds it to an export that is named as it may be.
 fn imports_one(kind: &NodeKind) -> bool
+    ensures { result ≡ is_some (rules.imported kind.now) }
 {
     match kind {
         NodeKind::ImportSpecifier(name) => is_exact(name),
@@ -39,6 +51,7 @@ fn imports_one(kind: &NodeKind) -> bool
 }
 
 fn default_name(alloc: Global) -> Result<ModuleName, AllocError>
+    ensures { IfOk result (λ n. n ≡ ModuleName.Name (codes "default")) }
 {
     let name = String::from_str(alloc, "default")?;
     Ok(ModuleName::Name(Ident::new(name)))
@@ -46,6 +59,8 @@ fn default_name(alloc: Global) -> Result<ModuleName, AllocError>
 
 // The export to which it binds one.
 fn imported(alloc: Global, kind: &NodeKind) -> Result<ModuleName, AllocError>
+    requires { is_some (rules.imported kind.now) ≡ true }
+    ensures { IfOk result (λ n. rules.imported kind.now ≡ Some n) }
 {
     match kind {
         NodeKind::ImportSpecifier(name) => clone_name(alloc, name),
@@ -56,6 +71,7 @@ fn imported(alloc: Global, kind: &NodeKind) -> Result<ModuleName, AllocError>
 // ---- the names of an import
 
 fn kind_of(item: &Option<Node>) -> Option<&NodeKind>
+    ensures { option_map (λ k. k.now) result ≡ option_map (λ x. x.kind) item.now }
 {
     match item {
         Some(node) => Some(node.kind()),
@@ -68,6 +84,7 @@ fn bind<'a>(
     text: &'a str,
     kind: &'a NodeKind,
 ) -> Result<(), AllocError>
+    ensures { OnOk result ((x : List ℕ) → found_in names.new x ≡ if bytes_eq text.now x && is_some (rules.imported kind.now) then rules.imported kind.now else found_in names.old x) }
 {
     if imports_one(kind) {
         names.insert(text, kind)?;
@@ -79,6 +96,7 @@ fn bind_item<'a>(
     names: &mut BTreeMap<&'a str, &'a NodeKind>,
     item: &'a Option<Node>,
 ) -> Result<(), AllocError>
+    ensures { OnOk result ((later : Forest) → Bound names.old later → Bound names.new (joined (row (item.now ∷ [])) later)) }
 {
     let Some(kind) = kind_of(item) else {
         return Ok(());
@@ -95,6 +113,7 @@ fn bound_names<'a>(
     alloc: Global,
     names: &'a [Option<Node>],
 ) -> Result<BTreeMap<&'a str, &'a NodeKind>, AllocError>
+    ensures { IfOk result (λ b. Bound b (row names.now)) }
 {
     let mut bound = BTreeMap::new(alloc);
     let mut at = names.len();
@@ -113,6 +132,8 @@ fn foreign(
     exported: &ModuleName,
     kind: &NodeKind,
 ) -> Result<Node, AllocError>
+    requires { is_some (rules.imported kind.now) ≡ true }
+    ensures { IfOk result (λ n. rules.and_passed exported.now specifier.now.note (rules.imported kind.now) (Some nothing) ≡ Some (forest_of n)) }
 {
     let local = imported(alloc, kind)?;
     let exported = clone_name(alloc, exported)?;
@@ -127,6 +148,7 @@ fn foreign(
 
 // The name to which a specifier refers that has nothing else.
 fn name_alone(name: &Node) -> Option<&str>
+    ensures { option_map (λ s. s.now) result ≡ name_alone name.now.kind name.now.below }
 {
     match name.kind() {
         NodeKind::ReferenceName(text) => {
@@ -141,6 +163,7 @@ fn name_alone(name: &Node) -> Option<&str>
 }
 
 fn reference_alone(children: &[Option<Node>]) -> Option<&str>
+    ensures { option_map (λ s. s.now) result ≡ reference_alone (row children.now) }
 {
     match children {
         [Some(name)] => name_alone(name),
@@ -156,6 +179,8 @@ fn passed_name(
     specifier: &Node,
     exported: &ModuleName,
 ) -> Result<Option<Node>, AllocError>
+    requires { specifier.now.kind ≡ export_specifier exported.now }
+    ensures { IfOk result (λ o. (names : Forest) → Bound bound.now names → option_map (λ n. forest_of n) o ≡ rules.passed names (forest_of specifier.now)) }
 {
     let Some(text) = reference_alone(specifier.children()) else {
         return Ok(None);
@@ -171,6 +196,7 @@ fn passed_one(
     bound: &BTreeMap<&str, &NodeKind>,
     specifier: &Node,
 ) -> Result<Option<Node>, AllocError>
+    ensures { IfOk result (λ o. (names : Forest) → Bound bound.now names → option_map (λ n. forest_of n) o ≡ rules.passed names (forest_of specifier.now)) }
 {
     match specifier.kind() {
         NodeKind::ExportSpecifier(exported) => passed_name(alloc, bound, specifier, exported),
@@ -183,6 +209,7 @@ fn passed_item(
     bound: &BTreeMap<&str, &NodeKind>,
     item: &Option<Node>,
 ) -> Result<Option<Node>, AllocError>
+    ensures { IfOk result (λ o. (names : Forest) → Bound bound.now names → option_map (λ n. forest_of n) o ≡ rules.passed names (row (item.now ∷ []))) }
 {
     match item {
         Some(specifier) => passed_one(alloc, bound, specifier),
@@ -195,6 +222,7 @@ fn passed_all(
     bound: &BTreeMap<&str, &NodeKind>,
     specifiers: &[Option<Node>],
 ) -> Result<Option<Vec<Option<Node>>>, AllocError>
+    ensures { IfOk result (λ o. (names : Forest) → Bound bound.now names → option_map (λ v. row v.items) o ≡ rules.passed names (row specifiers.now)) }
 {
     let mut passed = Vec::new(alloc);
     for item in specifiers {
@@ -211,6 +239,7 @@ fn passed(
     names: &[Option<Node>],
     specifiers: &[Option<Node>],
 ) -> Result<Option<Vec<Option<Node>>>, AllocError>
+    ensures { IfOk result (λ o. option_map (λ v. row v.items) o ≡ rules.passed (row names.now) (row specifiers.now)) }
 {
     let bound = bound_names(alloc, names)?;
     let passed = passed_all(alloc, &bound, specifiers)?;
@@ -220,6 +249,7 @@ fn passed(
 // ---- a namespace
 
 fn is_namespace(names: &[Option<Node>]) -> bool
+    ensures { result ≡ is_namespace_alone (row names.now) }
 {
     match names {
         [Some(name)] => matches!(name.kind(), NodeKind::ImportNamespaceSpecifier),
@@ -230,6 +260,7 @@ fn is_namespace(names: &[Option<Node>]) -> bool
 }
 
 fn exported_as(kind: &NodeKind) -> Option<&ModuleName>
+    ensures { option_map (λ n. n.now) result ≡ exported_as kind.now }
 {
     match kind {
         NodeKind::ExportSpecifier(exported) => Some(exported),
@@ -238,6 +269,7 @@ fn exported_as(kind: &NodeKind) -> Option<&ModuleName>
 }
 
 fn only_exported(specifiers: &[Option<Node>]) -> Option<&ModuleName>
+    ensures { option_map (λ n. n.now) result ≡ only_exported (row specifiers.now) }
 {
     match specifiers {
         [Some(specifier)] => exported_as(specifier.kind()),
@@ -251,6 +283,7 @@ fn namespace_passed<'a>(
     names: &[Option<Node>],
     specifiers: &'a [Option<Node>],
 ) -> Option<&'a ModuleName>
+    ensures { option_map (λ n. n.now) result ≡ rules.namespace_passed (row names.now) (row specifiers.now) }
 {
     if is_namespace(names) {
         only_exported(specifiers)
@@ -267,6 +300,7 @@ fn export_all(
     import: &Node,
     exported: &ModuleName,
 ) -> Result<Node, AllocError>
+    ensures { IfOk result (λ n. n ≡ record { kind = export_all_declaration (Some exported.now) source.now; note = import.now.note; below = nothing }) }
 {
     let source = Text::new(String::from_str(alloc, source)?);
     let exported = Some(clone_name(alloc, exported)?);
@@ -280,6 +314,7 @@ fn export_all(
 }
 
 fn list_of(list: &Node, passed: Vec<Option<Node>>) -> Node
+    ensures { result ≡ record { kind = specifiers; note = list.now.note; below = row passed.items } }
 {
     let mut node = Node::new(NodeKind::Specifiers, list.span(), passed);
     node.set_id(list.id());
@@ -292,6 +327,7 @@ fn export_named(
     import: &Node,
     list: Node,
 ) -> Result<Node, AllocError>
+    ensures { IfOk result (λ n. n ≡ record { kind = export_named_declaration (Some source.now); note = import.now.note; below = absent (forest_of list) }) }
 {
     let source = Text::new(String::from_str(alloc, source)?);
     let mut children = Vec::new(alloc);
@@ -313,6 +349,7 @@ fn names_passed(
     list: &Node,
     specifiers: &[Option<Node>],
 ) -> Result<Option<Node>, AllocError>
+    ensures { IfOk result (λ o. o ≡ rules.export_of source.now import.now.note list.now.note None (rules.passed list.now.below (row specifiers.now))) }
 {
     match passed(alloc, list.children(), specifiers)? {
         Some(passed) => Ok(Some(export_named(alloc, source, import, list_of(list, passed))?)),
@@ -327,6 +364,7 @@ fn export_of(
     list: &Node,
     specifiers: &[Option<Node>],
 ) -> Result<Option<Node>, AllocError>
+    ensures { IfOk result (λ o. o ≡ rules.export_of source.now import.now.note list.now.note (rules.namespace_passed list.now.below (row specifiers.now)) (rules.passed list.now.below (row specifiers.now))) }
 {
     match namespace_passed(list.children(), specifiers) {
         Some(exported) => Ok(Some(export_all(alloc, source, import, exported)?)),
@@ -335,6 +373,7 @@ fn export_of(
 }
 
 fn list_among(children: &[Option<Node>]) -> Option<&Node>
+    ensures { option_map (λ n. n.now) result ≡ list_among (row children.now) }
 {
     match children {
         [Some(list)] => as_specifiers(list),
@@ -345,6 +384,7 @@ fn list_among(children: &[Option<Node>]) -> Option<&Node>
 }
 
 fn as_specifiers(list: &Node) -> Option<&Node>
+    ensures { option_map (λ n. n.now) result ≡ as_specifiers list.now }
 {
     match list.kind() {
         NodeKind::Specifiers => Some(list),
@@ -359,6 +399,9 @@ fn import_passed(
     source: &str,
     import: &Node,
 ) -> Result<Option<Node>, AllocError>
+    requires told { Told listed.now.texts listed.now.references (row listed.now.specifiers.now) }
+    requires source { imported_from import.now.kind ≡ Some source.now }
+    ensures { IfOk result (λ o. o ≡ rules.passed_on uses.now (row listed.now.specifiers.now) import.now.kind import.now.note import.now.below) }
 {
     let Some(list) = list_among(import.children()) else {
         return Ok(None);
@@ -375,6 +418,8 @@ fn passed_on(
     listed: &Listed,
     node: &Node,
 ) -> Result<Option<Node>, AllocError>
+    requires told { Told listed.now.texts listed.now.references (row listed.now.specifiers.now) }
+    ensures { IfOk result (λ o. o ≡ rules.passed_on uses.now (row listed.now.specifiers.now) node.now.kind node.now.note node.now.below) }
 {
     match imported_from(node.kind()) {
         Some(source) => import_passed(alloc, uses, listed, source, node),
@@ -389,6 +434,8 @@ pub(crate) fn item_passed_on(
     listed: &Listed,
     item: &Option<Node>,
 ) -> Result<Option<Node>, AllocError>
+    requires told { Told listed.now.texts listed.now.references (row listed.now.specifiers.now) }
+    ensures { IfOk result (λ o. o ≡ item_passed_on uses.now (row listed.now.specifiers.now) item.now) }
 {
     match item {
         Some(node) => passed_on(alloc, uses, listed, node),

@@ -1,6 +1,6 @@
 // Imports that only feed exports become exports from their modules.
 
-use crate::listed::{Listed, bound_text, listed, listed_text};
+use crate::listed::{Listed, bound_text, listed_by, listed_text};
 use crate::merged::{as_changed, imported_from, is_missing, names_of, put_changed};
 use crate::passed::item_passed_on;
 use crate::repeated::keep_staying;
@@ -217,7 +217,7 @@ fn pass_among(
     let Some(within) = binders_of(binders, specifiers) else {
         return Ok(false);
     };
-    let listed = listed(alloc, specifiers)?;
+    let listed = listed_by(alloc, specifiers)?;
     pass_within(alloc, uses, &listed, items, staying, changed, within)
 }
 
