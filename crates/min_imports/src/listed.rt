@@ -7,7 +7,7 @@ ghost use Rattle.scope_table.specs.Reading.{symbol_at};
 ghost use Rattle.steps.specs.Allowed.PassedExports.{lists, may_pass};
 ghost use Rattle.rules.specs.Imports.Passed as rules;
 ghost use Rattle.rules.specs.Imports.Passed.{has_reference};
-ghost use Rattle.min_imports.specs.Passing.{first_below, reference_text, reference_id, binding_text, binding_id, listed_below, listed_text, reference_below, listed_reference, bound_below, bound_text, symbol_below, bound_symbol, has_text, has_number, Told, text_is_listed, name_passes};
+ghost use Rattle.min_imports.specs.Passing.{reference_text, reference_id, binding_text, binding_id, listed_below, listed_text, reference_below, listed_reference, bound_below, bound_text, symbol_below, bound_symbol, has_text, has_number, Told, text_is_listed, name_passes};
 
 use crate::names::is_name;
 use crate::uses::Uses;
@@ -19,16 +19,6 @@ use std::alloc::{AllocError, Global};
 use std::collections::BTreeSet;
 
 // ---- names
-
-fn first_child(children: &[Option<Node>]) -> Option<&Node>
-    ensures { option_map (λ n. n.now) result ≡ first_below (row children.now) }
-{
-    match children {
-        [Some(name), ..] => Some(name),
-        [None, ..] => None,
-        [] => None,
-    }
-}
 
 fn reference_text(kind: &NodeKind) -> Option<&str>
     ensures { option_map (λ s. s.now) result ≡ reference_text kind.now }
@@ -51,9 +41,10 @@ fn binding_text(kind: &NodeKind) -> Option<&str>
 fn listed_below(children: &[Option<Node>]) -> Option<&str>
     ensures { option_map (λ s. s.now) result ≡ listed_below (row children.now) }
 {
-    match first_child(children) {
-        Some(name) => reference_text(name.kind()),
-        None => None,
+    match children {
+        [Some(name), ..] => reference_text(name.kind()),
+        [None, ..] => None,
+        [] => None,
     }
 }
 
@@ -79,9 +70,10 @@ fn reference_of(name: &Node) -> Option<u32>
 fn reference_below(children: &[Option<Node>]) -> Option<u32>
     ensures { result ≡ reference_below (row children.now) }
 {
-    match first_child(children) {
-        Some(name) => reference_of(name),
-        None => None,
+    match children {
+        [Some(name), ..] => reference_of(name),
+        [None, ..] => None,
+        [] => None,
     }
 }
 
@@ -97,9 +89,10 @@ fn listed_reference(item: &Option<Node>) -> Option<u32>
 fn bound_below(children: &[Option<Node>]) -> Option<&str>
     ensures { option_map (λ s. s.now) result ≡ bound_below (row children.now) }
 {
-    match first_child(children) {
-        Some(name) => binding_text(name.kind()),
-        None => None,
+    match children {
+        [Some(name), ..] => binding_text(name.kind()),
+        [None, ..] => None,
+        [] => None,
     }
 }
 
@@ -125,9 +118,10 @@ fn symbol_of(name: &Node) -> Option<u32>
 fn symbol_below(children: &[Option<Node>]) -> Option<u32>
     ensures { result ≡ symbol_below (row children.now) }
 {
-    match first_child(children) {
-        Some(name) => symbol_of(name),
-        None => None,
+    match children {
+        [Some(name), ..] => symbol_of(name),
+        [None, ..] => None,
+        [] => None,
     }
 }
 
@@ -153,19 +147,25 @@ pub(crate) struct Listed<'a> {
 fn add_text<'a>(texts: &mut BTreeSet<&'a str>, item: &'a Option<Node>) -> Result<(), AllocError>
     ensures { OnOk result ((x : List ℕ) → has_text texts.new x ≡ lists (row (item.now ∷ [])) x || has_text texts.old x) }
 {
-    if let Some(text) = listed_text(item) {
-        texts.insert(text)?;
+    match listed_text(item) {
+        Some(text) => {
+            texts.insert(text)?;
+            Ok(())
+        }
+        None => Ok(()),
     }
-    Ok(())
 }
 
 fn add_reference(references: &mut BTreeSet<u32>, item: &Option<Node>) -> Result<(), AllocError>
     ensures { OnOk result ((id : ℕ) → has_number references.new id ≡ has_reference (row (item.now ∷ [])) id || has_number references.old id) }
 {
-    if let Some(id) = listed_reference(item) {
-        references.insert(id)?;
+    match listed_reference(item) {
+        Some(id) => {
+            references.insert(id)?;
+            Ok(())
+        }
+        None => Ok(()),
     }
-    Ok(())
 }
 
 /// What the specifiers of an export list.

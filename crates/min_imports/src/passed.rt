@@ -7,7 +7,7 @@ ghost use Rattle.js_syntax.specs.Node.{Forest, nothing, absent, row, forest_of, 
 ghost use Rattle.json_shape.specs.Exact.{is_exact_module_name};
 ghost use Rattle.rules.specs.Imports.Passed as rules;
 ghost use Rattle.min_imports.specs.Merging.{imported_from};
-ghost use Rattle.min_imports.specs.Passing.{Told, Bound, found_in, name_alone, reference_alone, is_namespace_alone, exported_as, only_exported, as_specifiers, list_among, item_passed_on};
+ghost use Rattle.min_imports.specs.Passing.{Told, Bound, found_in, name_alone, reference_alone, is_namespace_alone, exported_alone, only_exported, as_specifiers, list_among, item_passed_on};
 
 use crate::listed::{Listed, bound_text, names_pass};
 use crate::merged::imported_from;
@@ -88,6 +88,7 @@ fn bind<'a>(
 {
     if imports_one(kind) {
         names.insert(text, kind)?;
+        return Ok(());
     }
     Ok(())
 }
@@ -259,11 +260,14 @@ fn is_namespace(names: &[Option<Node>]) -> bool
     }
 }
 
-fn exported_as(kind: &NodeKind) -> Option<&ModuleName>
-    ensures { option_map (λ n. n.now) result ≡ exported_as kind.now }
+fn exported_alone(specifier: &Node) -> Option<&ModuleName>
+    ensures { option_map (λ n. n.now) result ≡ exported_alone specifier.now.kind specifier.now.below }
 {
-    match kind {
-        NodeKind::ExportSpecifier(exported) => Some(exported),
+    match specifier.kind() {
+        NodeKind::ExportSpecifier(exported) => match reference_alone(specifier.children()) {
+            Some(_) => Some(exported),
+            None => None,
+        },
         _ => None,
     }
 }
@@ -272,7 +276,7 @@ fn only_exported(specifiers: &[Option<Node>]) -> Option<&ModuleName>
     ensures { option_map (λ n. n.now) result ≡ only_exported (row specifiers.now) }
 {
     match specifiers {
-        [Some(specifier)] => exported_as(specifier.kind()),
+        [Some(specifier)] => exported_alone(specifier),
         [Some(_), _, ..] => None,
         [None, ..] => None,
         [] => None,
@@ -321,12 +325,7 @@ fn list_of(list: &Node, passed: Vec<Option<Node>>) -> Node
     node
 }
 
-fn export_named(
-    alloc: Global,
-    source: &str,
-    import: &Node,
-    list: Node,
-) -> Result<Node, AllocError>
+fn export_named(alloc: Global, source: &str, import: &Node, list: Node) -> Result<Node, AllocError>
     ensures { IfOk result (λ n. n ≡ record { kind = export_named_declaration (Some source.now); note = import.now.note; below = absent (forest_of list) }) }
 {
     let source = Text::new(String::from_str(alloc, source)?);

@@ -1,4 +1,12 @@
 // Imports that only feed exports become exports from their modules.
+ghost use Rattle.std.specs.Prelude.{◌≡◌, ◌<◌, ◌≤◌, ℕ, List, length, [], ◌∷◌, ◌||◌, true, false, None, is_some, get_or, IfOk, OnOk, IsOk};
+ghost use Rattle.std.specs.Option.{option_map};
+ghost use Rattle.std.specs.Str.{bytes_eq};
+ghost use Rattle.js_syntax.specs.Node.{Forest, absent, row, forest_of};
+ghost use Rattle.rules.specs.DeadCode.Rules.{Facts};
+ghost use Rattle.rules.specs.Imports.Passed as rules;
+ghost use Rattle.min_imports.specs.Merging.{or_changed, overlaid, planned, is_missing};
+ghost use Rattle.min_imports.specs.Passing.{Told, Beside, Passes, Covers, Covered, ItemPasses, Plan, Planned, passes_at, item_binds, names_in, is_text, bound_text, exports_names, specifiers_of, item_exports, has_export, imports_names, stretch, stretch_for, first_text, widened, widened_if};
 
 use crate::listed::{Listed, bound_text, listed_by, listed_text};
 use crate::merged::{as_changed, imported_from, is_missing, names_of, put_changed};
@@ -14,6 +22,7 @@ use std::collections::BTreeMap;
 
 // The specifiers of an export of names alone.
 fn specifiers_in(list: &Node) -> Option<&[Option<Node>]>
+    ensures { option_map (λ s. row s.now) result ≡ specifiers_of (absent (forest_of list.now)) }
 {
     match list.kind() {
         NodeKind::Specifiers => Some(list.children()),
@@ -22,14 +31,20 @@ fn specifiers_in(list: &Node) -> Option<&[Option<Node>]>
 }
 
 fn specifiers_of(children: &[Option<Node>]) -> Option<&[Option<Node>]>
+    ensures { option_map (λ s. row s.now) result ≡ specifiers_of (row children.now) }
 {
     match children {
         [None, Some(list)] => specifiers_in(list),
-        _ => None,
+        [None, Some(_), _, ..] => None,
+        [None, None, ..] => None,
+        [None] => None,
+        [Some(_), ..] => None,
+        [] => None,
     }
 }
 
 fn exports_names(node: &Node) -> Option<&[Option<Node>]>
+    ensures { option_map (λ s. row s.now) result ≡ exports_names node.now.kind node.now.below }
 {
     match node.kind() {
         NodeKind::ExportNamedDeclaration(None) => specifiers_of(node.children()),
@@ -38,6 +53,7 @@ fn exports_names(node: &Node) -> Option<&[Option<Node>]>
 }
 
 fn item_exports(item: &Option<Node>) -> bool
+    ensures { result ≡ item_exports item.now }
 {
     match item {
         Some(node) => match exports_names(node) {
@@ -49,6 +65,7 @@ fn item_exports(item: &Option<Node>) -> bool
 }
 
 fn has_export(items: &[Option<Node>]) -> bool
+    ensures { result ≡ has_export (row items.now) }
 {
     for item in items {
         if item_exports(item) {
@@ -59,6 +76,7 @@ fn has_export(items: &[Option<Node>]) -> bool
 }
 
 fn imports_names(node: &Node) -> Option<&[Option<Node>]>
+    ensures { option_map (λ s. row s.now) result ≡ imports_names node.now.kind node.now.below }
 {
     match imported_from(node.kind()) {
         Some(_) => names_of(node.children()),
@@ -68,25 +86,23 @@ fn imports_names(node: &Node) -> Option<&[Option<Node>]>
 
 // ---- which imports bind a name
 
-// Where they stand: from an index on, and before another.
+// Where they stand: from an index on, up to another.
 #[derive(Clone, Copy)]
-struct Within {
-    from: usize,
-    to: usize,
+pub(crate) struct Within {
+    pub(crate) from: usize,
+    pub(crate) to: usize,
 }
 
 // With one more.
 fn widened(known: Option<Within>, at: usize) -> Within
+    ensures { result ≡ widened known at }
 {
     match known {
         Some(within) => Within {
             from: within.from,
-            to: at + 1,
+            to: at,
         },
-        None => Within {
-            from: at,
-            to: at + 1,
-        },
+        None => Within { from: at, to: at },
     }
 }
 
@@ -95,6 +111,7 @@ fn add_binder<'a>(
     text: &'a str,
     at: usize,
 ) -> Result<(), AllocError>
+    ensures { OnOk result ((x : List ℕ) → stretch binders.new x ≡ widened_if (bytes_eq text.now x) (stretch binders.old x) at) }
 {
     let within = widened(binders.get(&text).copied(), at);
     binders.insert(text, within)?;
@@ -106,11 +123,15 @@ fn add_name<'a>(
     name: &'a Option<Node>,
     at: usize,
 ) -> Result<(), AllocError>
+    ensures { OnOk result ((x : List ℕ) → stretch binders.new x ≡ widened_if (is_text (bound_text name.now) x) (stretch binders.old x) at) }
 {
-    if let Some(text) = bound_text(name) {
-        add_binder(binders, text, at)?;
+    match bound_text(name) {
+        Some(text) => {
+            add_binder(binders, text, at)?;
+            Ok(())
+        }
+        None => Ok(()),
     }
-    Ok(())
 }
 
 fn add_names<'a>(
@@ -118,6 +139,7 @@ fn add_names<'a>(
     names: &'a [Option<Node>],
     at: usize,
 ) -> Result<(), AllocError>
+    ensures { OnOk result (Covered binders.old binders.new (row names.now) at) }
 {
     for name in names {
         add_name(binders, name, at)?;
@@ -130,15 +152,29 @@ fn add_import<'a>(
     node: &'a Node,
     at: usize,
 ) -> Result<(), AllocError>
+    ensures { OnOk result (Covered binders.old binders.new (names_in node.now.kind node.now.below) at) }
 {
-    if let Some(names) = imports_names(node) {
-        add_names(binders, names, at)?;
+    match imports_names(node) {
+        Some(names) => add_names(binders, names, at),
+        None => Ok(()),
     }
-    Ok(())
 }
 
-// Where the imports stand that bind the first name that an export lists.
+fn add_item<'a>(
+    binders: &mut BTreeMap<&'a str, Within>,
+    item: &'a Option<Node>,
+    at: usize,
+) -> Result<(), AllocError>
+    ensures { OnOk result ((x : List ℕ) → stretch binders.new x ≡ widened_if (item_binds item.now x) (stretch binders.old x) at) }
+{
+    match item {
+        Some(node) => add_import(binders, node, at),
+        None => Ok(()),
+    }
+}
+
 fn first_text(specifiers: &[Option<Node>]) -> Option<&str>
+    ensures { option_map (λ s. s.now) result ≡ first_text (row specifiers.now) }
 {
     match specifiers {
         [first, ..] => listed_text(first),
@@ -146,7 +182,9 @@ fn first_text(specifiers: &[Option<Node>]) -> Option<&str>
     }
 }
 
+// Where the imports stand that bind the first name that an export lists.
 fn binders_of(binders: &BTreeMap<&str, Within>, specifiers: &[Option<Node>]) -> Option<Within>
+    ensures { result ≡ stretch_for binders.now (first_text (row specifiers.now)) }
 {
     match first_text(specifiers) {
         Some(text) => binders.get(&text).copied(),
@@ -157,6 +195,8 @@ fn binders_of(binders: &BTreeMap<&str, Within>, specifiers: &[Option<Node>]) -> 
 // ---- which import becomes an export
 
 fn put_passed(changed: &mut Option<Node>, passed: Option<Node>) -> bool
+    ensures goes { result ≡ is_some passed }
+    ensures changed { changed.new ≡ or_changed changed.old passed }
 {
     match passed {
         Some(node) => {
@@ -175,12 +215,16 @@ fn pass_at(
     stays: bool,
     changed: &mut Option<Node>,
 ) -> Result<bool, AllocError>
+    requires told { Told listed.now.texts listed.now.references (row listed.now.specifiers.now) }
+    ensures goes { IfOk result (λ b. b ≡ is_some (passes_at uses.now (row listed.now.specifiers.now) stays (or_changed item.now changed.old))) }
+    ensures changed { OnOk result (changed.new ≡ or_changed changed.old (passes_at uses.now (row listed.now.specifiers.now) stays (or_changed item.now changed.old))) }
 {
     if !stays {
         return Ok(false);
     }
     let passed = item_passed_on(alloc, uses, listed, as_changed(item, changed))?;
-    Ok(put_passed(changed, passed))
+    let goes = put_passed(changed, passed);
+    Ok(goes)
 }
 
 fn pass_within(
@@ -192,9 +236,17 @@ fn pass_within(
     changed: &mut Vec<Option<Node>>,
     within: Within,
 ) -> Result<bool, AllocError>
+    requires told { Told listed.now.texts listed.now.references (row listed.now.specifiers.now) }
+    requires even { length changed.old.items ≡ length staying.now }
+    requires within { length staying.now ≤ length items.now }
+    requires inside { within.to < length staying.now }
+    requires beside { Beside uses.now (row listed.now.specifiers.now) staying.now (overlaid items.now changed.old.items) within.from within.to }
+    ensures passes { IfOk result (λ b. Passes (rules.passed_among uses.now (row listed.now.specifiers.now) (planned items.now staying.now changed.old.items)) (planned items.now staying.now changed.old.items) b (planned items.now staying.now changed.new.items)) }
+    ensures binds { OnOk result ((j : ℕ) (x : List ℕ) → item_binds (get_or (overlaid items.now changed.new.items) j None) x ≡ true → item_binds (get_or (overlaid items.now changed.old.items) j None) x ≡ true) }
+    ensures even { OnOk result (length changed.new.items ≡ length changed.old.items) }
 {
     let mut at = within.from;
-    while at < within.to {
+    while at <= within.to {
         let slot = &mut changed[at];
         if pass_at(alloc, uses, listed, &items[at], staying[at], slot)? {
             return Ok(true);
@@ -213,47 +265,65 @@ fn pass_among(
     changed: &mut Vec<Option<Node>>,
     specifiers: &[Option<Node>],
 ) -> Result<bool, AllocError>
+    requires even { length changed.old.items ≡ length staying.now }
+    requires within { length staying.now ≤ length items.now }
+    requires covers { Covers binders.now (overlaid items.now changed.old.items) }
+    requires there { (j : ℕ) → j < length staying.now → is_missing (get_or items.now j None) ≡ false }
+    ensures passes { IfOk result (λ b. Passes (rules.passed_among uses.now (row specifiers.now) (planned items.now staying.now changed.old.items)) (planned items.now staying.now changed.old.items) b (planned items.now staying.now changed.new.items)) }
+    ensures binds { OnOk result ((j : ℕ) (x : List ℕ) → item_binds (get_or (overlaid items.now changed.new.items) j None) x ≡ true → item_binds (get_or (overlaid items.now changed.old.items) j None) x ≡ true) }
+    ensures even { OnOk result (length changed.new.items ≡ length changed.old.items) }
 {
     let Some(within) = binders_of(binders, specifiers) else {
         return Ok(false);
     };
     let listed = listed_by(alloc, specifiers)?;
-    pass_within(alloc, uses, &listed, items, staying, changed, within)
+    let goes = pass_within(alloc, uses, &listed, items, staying, changed, within)?;
+    Ok(goes)
 }
 
 // Whether an export goes: an import before it becomes one from its module then.
-fn export_goes<'a>(
+fn export_goes(
     alloc: Global,
     uses: &Uses,
-    binders: &mut BTreeMap<&'a str, Within>,
+    binders: &BTreeMap<&str, Within>,
     items: &[Option<Node>],
     staying: &[bool],
     changed: &mut Vec<Option<Node>>,
-    node: &'a Node,
+    node: &Node,
 ) -> Result<bool, AllocError>
+    requires even { length changed.old.items ≡ length staying.now }
+    requires within { length staying.now ≤ length items.now }
+    requires covers { Covers binders.now (overlaid items.now changed.old.items) }
+    requires there { (j : ℕ) → j < length staying.now → is_missing (get_or items.now j None) ≡ false }
+    ensures passes { IfOk result (λ b. Passes (rules.passed_before uses.now (planned items.now staying.now changed.old.items) node.now.kind node.now.below) (planned items.now staying.now changed.old.items) b (planned items.now staying.now changed.new.items)) }
+    ensures binds { OnOk result ((j : ℕ) (x : List ℕ) → item_binds (get_or (overlaid items.now changed.new.items) j None) x ≡ true → item_binds (get_or (overlaid items.now changed.old.items) j None) x ≡ true) }
+    ensures even { OnOk result (length changed.new.items ≡ length changed.old.items) }
 {
-    match exports_names(node) {
-        Some(specifiers) => {
-            pass_among(alloc, uses, binders, items, staying, changed, specifiers)
-        }
-        None => {
-            add_import(binders, node, staying.len())?;
-            Ok(false)
-        }
-    }
+    let Some(specifiers) = exports_names(node) else {
+        return Ok(false);
+    };
+    let goes = pass_among(alloc, uses, binders, items, staying, changed, specifiers)?;
+    Ok(goes)
 }
 
 // Behind an item that is missing none goes.
-fn item_goes<'a>(
+fn item_goes(
     alloc: Global,
     uses: &Uses,
-    binders: &mut BTreeMap<&'a str, Within>,
+    binders: &BTreeMap<&str, Within>,
     ended: bool,
     items: &[Option<Node>],
     staying: &[bool],
     changed: &mut Vec<Option<Node>>,
-    item: &'a Option<Node>,
+    item: &Option<Node>,
 ) -> Result<bool, AllocError>
+    requires even { length changed.old.items ≡ length staying.now }
+    requires within { length staying.now ≤ length items.now }
+    requires covers { Covers binders.now (overlaid items.now changed.old.items) }
+    requires there { ended ≡ false → (j : ℕ) → j < length staying.now → is_missing (get_or items.now j None) ≡ false }
+    ensures passes { IfOk result (λ b. ItemPasses uses.now ended (planned items.now staying.now changed.old.items) item.now b (planned items.now staying.now changed.new.items)) }
+    ensures binds { OnOk result ((j : ℕ) (x : List ℕ) → item_binds (get_or (overlaid items.now changed.new.items) j None) x ≡ true → item_binds (get_or (overlaid items.now changed.old.items) j None) x ≡ true) }
+    ensures even { OnOk result (length changed.new.items ≡ length changed.old.items) }
 {
     if ended {
         return Ok(false);
@@ -261,8 +331,11 @@ fn item_goes<'a>(
     let Some(node) = item else {
         return Ok(false);
     };
-    export_goes(alloc, uses, binders, items, staying, changed, node)
+    let goes = export_goes(alloc, uses, binders, items, staying, changed, node)?;
+    Ok(goes)
 }
+
+// ---- all items
 
 /// Which items of a list stay, and what those become that change.
 #[derive(Drop)]
@@ -274,33 +347,52 @@ pub struct Passing {
 impl Passing {
     /// Of each item whether it stays.
     pub fn staying(&self) -> &[bool]
+        ensures { result.now ≡ self.now.staying.items }
     {
         self.staying.as_slice()
     }
 }
 
+fn ends_at(ended: bool, item: &Option<Node>) -> bool
+    ensures { result ≡ (ended || is_missing item.now) }
+{
+    ended || is_missing(item)
+}
+
 fn plan(alloc: Global, uses: &Uses, items: &[Option<Node>]) -> Result<Passing, AllocError>
+    ensures { IfOk result (λ p. Plan uses.now p.staying.items p.changed.items (row items.now)) }
 {
     let mut binders = BTreeMap::new(alloc);
     let mut staying = Vec::new(alloc);
     let mut changed = Vec::new(alloc);
     let mut ended = false;
     for item in items {
-        ended = ended || is_missing(item);
+        ended = ends_at(ended, item);
         let is_gone = item_goes(
             alloc,
             uses,
-            &mut binders,
+            &binders,
             ended,
             items,
             staying.as_slice(),
             &mut changed,
             item,
         )?;
+        add_item(&mut binders, item, staying.len())?;
         staying.push(!is_gone)?;
         changed.push(None)?;
     }
     Ok(Passing { staying, changed })
+}
+
+fn some_go(passing: Passing) -> Option<Passing>
+    ensures { (f : Facts) (list : Forest) → Plan f passing.staying.items passing.changed.items list → Planned f list result }
+{
+    if passing.staying.contains(&false) {
+        Some(passing)
+    } else {
+        None
+    }
 }
 
 /// Which exports of a list go, and which imports become exports from their modules: each export of names alone goes where it lists just the
@@ -311,19 +403,21 @@ pub fn plan_passing(
     uses: &Uses,
     items: &[Option<Node>],
 ) -> Result<Option<Passing>, AllocError>
+    ensures planned { IfOk result (λ p. Planned uses.now (row items.now) p) }
+    ensures succeeds { has_export (row items.now) ≡ false → IsOk result }
 {
     if !has_export(items) {
         return Ok(None);
     }
     let passing = plan(alloc, uses, items)?;
-    if !passing.staying.contains(&false) {
-        return Ok(None);
-    }
-    Ok(Some(passing))
+    Ok(some_go(passing))
 }
 
 /// The list by such a plan.
 pub fn pass_on(items: &mut Vec<Option<Node>>, passing: Passing)
+    requires even { length passing.changed.items ≡ length items.old.items }
+    requires long { length passing.staying.items ≡ length items.old.items }
+    ensures { row items.new.items ≡ planned items.old.items passing.staying.items passing.changed.items }
 {
     let Passing {
         staying,
