@@ -3,6 +3,9 @@ pub mod Telling
 pub mod Staying
 pub mod Closing
 pub mod Lists
+pub mod Listing
+pub mod Naming
+pub mod Binding
 pub mod Planning
 pub mod Finding
 pub mod Laying

@@ -16,10 +16,10 @@ use Rattle.js_syntax.specs.Node.{Forest, Note, Tree, nothing, node, absent, join
 use Rattle.scope_rules.specs.Table.{Scoping}
 use Rattle.steps.specs.Allowed.Arranged.{is_nothing}
 use Rattle.steps.specs.Allowed.MergedImports.{are_names}
-use Rattle.steps.specs.Allowed.PassedExports.{lists}
+use Rattle.steps.specs.Allowed.PassedExports.{lists, lists_each}
 use Rattle.rules.specs.DeadCode.Rules.{Facts}
-use Rattle.rules.specs.Imports.Passed.{has_reference, is_passed_alone, imported, bound_in, passed_on, passed_before, one_passes, all_passed, all_gone}
-use Rattle.min_imports.specs.Merging.{planned, is_missing}
+use Rattle.rules.specs.Imports.Passed.{has_reference, is_passed_alone, are_passed_alone, imported, bound_in, passed_on, passed_before, one_passes, all_passed, all_gone}
+use Rattle.min_imports.specs.Merging.{is_import, planned, is_missing}
 use Rattle.min_imports.specs.declared.passing.Passing.{Passing}
 use Rattle.min_imports.specs.declared.passing.Within.{Within}
 use denote.Ref.{Bor}
@@ -92,8 +92,8 @@ abbrev pub has_number : BTreeSet ℕ → ℕ → Bool
 has_number numbers id = contains_by (nat_cmp id) numbers
 
 pub record Told (texts : BTreeSet (Bor (List ℕ))) (references : BTreeSet ℕ) (listed : Forest) : Type 0 where
-  pub texts : (x : List ℕ) → has_text texts x ≡ lists listed x
-  pub references : (id : ℕ) → has_number references id ≡ has_reference listed id
+  pub has_texts : (x : List ℕ) → has_text texts x ≡ lists listed x
+  pub has_references : (id : ℕ) → has_number references id ≡ has_reference listed id
 
 abbrev pub text_is_listed : (listed : Forest) → Option (List ℕ) → Bool
 text_is_listed listed None = false
@@ -103,6 +103,10 @@ text_is_listed listed (Some x) = lists listed x
 abbrev pub name_passes : Facts → (listed : Forest) → Option Tree → Bool
 name_passes f listed x = are_names (row (x ∷ [])) && (text_is_listed listed (bound_text x) && is_passed_alone f listed (bound_symbol x))
 
+-- whether one of them fails
+abbrev pub fails : Facts → (listed names : Forest) → Bool
+fails f listed names = not (are_names names && (lists_each listed names && are_passed_alone f listed names))
+
 -- ---- what names are bound to
 
 abbrev pub imported_there : Option (Bor Kind) → Option ModuleName
@@ -111,6 +115,18 @@ imported_there (Some k) = imported k.now
 
 abbrev pub found_in : BTreeMap (Bor (List ℕ)) (Bor Kind) → List ℕ → Option ModuleName
 found_in bound x = imported_there (tree.get_by (λ k. slice_cmp nat_cmp x k.now) bound)
+
+abbrev pub is_text : Option (List ℕ) → List ℕ → Bool
+is_text None x = false
+is_text (Some y) x = bytes_eq y x
+
+-- where a name of a kind is bound, and of an item
+abbrev pub or_found : Bool → Kind → Option ModuleName → Option ModuleName
+or_found same k o = if same && is_some (imported k) then imported k else o
+
+abbrev pub item_found : Option Tree → List ℕ → Option ModuleName → Option ModuleName
+item_found None x o = o
+item_found (Some t) x o = or_found (is_text (bound_below t.below) x) t.kind o
 
 abbrev pub Bound : BTreeMap (Bor (List ℕ)) (Bor Kind) → (names : Forest) → Type 0
 Bound bound names = (x : List ℕ) → found_in bound x ≡ bound_in names x
@@ -129,9 +145,12 @@ abbrev pub reference_alone : (below : Forest) → Option (List ℕ)
 reference_alone (node k n below nothing) = name_alone k below
 reference_alone below = None
 
+abbrev pub exported_as : Kind → Option ModuleName
+exported_as (export_specifier exported) = Some exported
+exported_as k = None
+
 abbrev pub exported_alone : Kind → (below : Forest) → Option ModuleName
-exported_alone (export_specifier exported) below = if is_some (reference_alone below) then Some exported else None
-exported_alone k below = None
+exported_alone k below = if is_some (reference_alone below) then exported_as k else None
 
 abbrev pub only_exported : (listed : Forest) → Option ModuleName
 only_exported (node k n below nothing) = exported_alone k below
@@ -161,6 +180,14 @@ abbrev pub passes_at : Facts → (listed : Forest) → (stays : Bool) → Option
 passes_at f listed false x = None
 passes_at f listed true x = item_passed_on f listed x
 
+-- what items became is no import
+abbrev pub imports : Option Tree → Bool
+imports None = false
+imports (Some x) = is_import x.kind
+
+abbrev pub NoImports : List (Option Tree) → Type 0
+NoImports changed = (j : ℕ) → imports (get_or changed j None) ≡ false
+
 -- none of the items that may do so stands outside a stretch, and none of them is missing
 pub record Beside (f : Facts) (listed : Forest) (staying : List Bool) (items : List (Option Tree)) (from to : ℕ) : Type 0 where
   pub before : (j : ℕ) → j < from → passes_at f listed (get_or staying j false) (get_or items j None) ≡ None
@@ -173,22 +200,29 @@ Passes passed before goes after = (passed ≡ if goes then Some after else None)
 
 -- ---- which imports bind a name
 
-abbrev pub is_text : Option (List ℕ) → List ℕ → Bool
-is_text None x = false
-is_text (Some y) x = bytes_eq y x
-
 abbrev pub names_bind : (names : Forest) → List ℕ → Bool
 names_bind nothing x = false
 names_bind (absent rest) x = names_bind rest x
 names_bind (node k n below rest) x = is_text (bound_below below) x || names_bind rest x
 
+abbrev pub imports_names : Kind → (below : Forest) → Option Forest
+imports_names (import_declaration source) (node specifiers m names nothing) = Some names
+imports_names k below = None
+
+abbrev pub or_nothing : Option Forest → Forest
+or_nothing None = nothing
+or_nothing (Some t) = t
+
 abbrev pub names_in : Kind → (below : Forest) → Forest
-names_in (import_declaration source) (node specifiers m names nothing) = names
-names_in k below = nothing
+names_in k below = or_nothing (imports_names k below)
 
 abbrev pub item_binds : Option Tree → List ℕ → Bool
 item_binds None x = false
 item_binds (Some t) x = names_bind (names_in t.kind t.below) x
+
+abbrev pub is_plain : Kind → Bool
+is_plain (export_named_declaration None) = true
+is_plain k = false
 
 -- the specifiers of an export of names alone
 abbrev pub exports_names : Kind → (below : Forest) → Option Forest
@@ -207,10 +241,6 @@ abbrev pub has_export : Forest → Bool
 has_export nothing = false
 has_export (absent rest) = has_export rest
 has_export (node k n below rest) = is_some (exports_names k below) || has_export rest
-
-abbrev pub imports_names : Kind → (below : Forest) → Option Forest
-imports_names (import_declaration source) (node specifiers m names nothing) = Some names
-imports_names k below = None
 
 -- where those stand that bind a name: from an index on, up to another
 abbrev pub stretch : BTreeMap (Bor (List ℕ)) Within → List ℕ → Option Within

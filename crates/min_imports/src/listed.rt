@@ -1,5 +1,5 @@
 // What an export lists, and whether it lists the names of an import.
-ghost use Rattle.std.specs.Prelude.{◌≡◌, ℕ, List, [], ◌∷◌, ◌||◌, ◌&&◌, map, OnOk, IfOk};
+ghost use Rattle.std.specs.Prelude.{◌≡◌, ℕ, List, [], ◌∷◌, ◌||◌, ◌&&◌, not, map, OnOk, IfOk};
 ghost use Rattle.std.specs.List.{list_all};
 ghost use Rattle.std.specs.Option.{option_map};
 ghost use Rattle.js_syntax.specs.Node.{row};
@@ -7,7 +7,7 @@ ghost use Rattle.scope_table.specs.Reading.{symbol_at};
 ghost use Rattle.steps.specs.Allowed.PassedExports.{lists, may_pass};
 ghost use Rattle.rules.specs.Imports.Passed as rules;
 ghost use Rattle.rules.specs.Imports.Passed.{has_reference};
-ghost use Rattle.min_imports.specs.Passing.{reference_text, reference_id, binding_text, binding_id, listed_below, listed_text, reference_below, listed_reference, bound_below, bound_text, symbol_below, bound_symbol, has_text, has_number, Told, text_is_listed, name_passes};
+ghost use Rattle.min_imports.specs.Passing.{reference_text, reference_id, binding_text, binding_id, listed_below, listed_text, reference_below, listed_reference, bound_below, bound_text, symbol_below, bound_symbol, has_text, has_number, Told, text_is_listed, name_passes, fails};
 
 use crate::names::is_name;
 use crate::uses::Uses;
@@ -38,7 +38,7 @@ fn binding_text(kind: &NodeKind) -> Option<&str>
     }
 }
 
-fn listed_below(children: &[Option<Node>]) -> Option<&str>
+pub(crate) fn listed_below(children: &[Option<Node>]) -> Option<&str>
     ensures { option_map (λ s. s.now) result ≡ listed_below (row children.now) }
 {
     match children {
@@ -48,8 +48,8 @@ fn listed_below(children: &[Option<Node>]) -> Option<&str>
     }
 }
 
-/// The name to which a specifier of an export refers.
-pub(crate) fn listed_text(item: &Option<Node>) -> Option<&str>
+// The name to which a specifier of an export refers.
+fn listed_text(item: &Option<Node>) -> Option<&str>
     ensures { option_map (λ s. s.now) result ≡ listed_text item.now }
 {
     match item {
@@ -86,7 +86,7 @@ fn listed_reference(item: &Option<Node>) -> Option<u32>
     }
 }
 
-fn bound_below(children: &[Option<Node>]) -> Option<&str>
+pub(crate) fn bound_below(children: &[Option<Node>]) -> Option<&str>
     ensures { option_map (λ s. s.now) result ≡ bound_below (row children.now) }
 {
     match children {
@@ -233,7 +233,7 @@ fn is_passed_alone(uses: &Uses, listed: &Listed, symbol: Option<u32>) -> bool
     }
 }
 
-fn is_text_listed(listed: &Listed, item: &Option<Node>) -> bool
+fn is_text_listed<'a>(listed: &Listed<'a>, item: &'a Option<Node>) -> bool
     requires told { Told listed.now.texts listed.now.references (row listed.now.specifiers.now) }
     ensures { result ≡ text_is_listed (row listed.now.specifiers.now) (bound_text item.now) }
 {
@@ -243,7 +243,7 @@ fn is_text_listed(listed: &Listed, item: &Option<Node>) -> bool
     }
 }
 
-fn name_passes(uses: &Uses, listed: &Listed, item: &Option<Node>) -> bool
+fn name_passes<'a>(uses: &Uses, listed: &Listed<'a>, item: &'a Option<Node>) -> bool
     requires told { Told listed.now.texts listed.now.references (row listed.now.specifiers.now) }
     ensures { result ≡ name_passes uses.now (row listed.now.specifiers.now) item.now }
 {
@@ -251,15 +251,25 @@ fn name_passes(uses: &Uses, listed: &Listed, item: &Option<Node>) -> bool
         && (is_text_listed(listed, item) && is_passed_alone(uses, listed, bound_symbol(item)))
 }
 
-/// Whether an import binds names, and an export lists each, to which nothing else refers.
-pub(crate) fn names_pass(uses: &Uses, listed: &Listed, names: &[Option<Node>]) -> bool
+fn all_pass<'a>(uses: &Uses, listed: &Listed<'a>, names: &'a [Option<Node>]) -> bool
     requires told { Told listed.now.texts listed.now.references (row listed.now.specifiers.now) }
-    ensures { result ≡ (may_pass (row names.now) (row listed.now.specifiers.now) && rules.are_passed_alone uses.now (row listed.now.specifiers.now) (row names.now)) }
+    ensures { result ≡ not (fails uses.now (row listed.now.specifiers.now) (row names.now)) }
 {
     for item in names {
         if !name_passes(uses, listed, item) {
             return false;
         }
     }
-    !names.is_empty()
+    true
+}
+
+/// Whether an import binds names, and an export lists each, to which nothing else refers.
+pub(crate) fn names_pass<'a>(uses: &Uses, listed: &Listed<'a>, names: &'a [Option<Node>]) -> bool
+    requires told { Told listed.now.texts listed.now.references (row listed.now.specifiers.now) }
+    ensures { result ≡ (may_pass (row names.now) (row listed.now.specifiers.now) && rules.are_passed_alone uses.now (row listed.now.specifiers.now) (row names.now)) }
+{
+    match names {
+        [_, ..] => all_pass(uses, listed, names),
+        [] => false,
+    }
 }

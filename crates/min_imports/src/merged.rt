@@ -93,7 +93,7 @@ fn takes(source: &str, later: &[Option<Node>], node: &Node) -> bool
 }
 
 // An item as it will be.
-pub(crate) fn as_changed<'a>(item: &'a Option<Node>, changed: &'a Option<Node>) -> &'a Option<Node>
+fn as_changed<'a>(item: &'a Option<Node>, changed: &'a Option<Node>) -> &'a Option<Node>
     ensures { result.now ≡ or_changed item.now changed.now }
 {
     match changed {

@@ -1,15 +1,15 @@
 // What an import becomes whose names an export lists.
-ghost use Rattle.std.specs.Prelude.{◌≡◌, ℕ, List, [], ◌∷◌, ◌&&◌, Some, None, true, is_some, codes, IfOk, OnOk, if◌then◌else◌};
+ghost use Rattle.std.specs.Prelude.{◌≡◌, ℕ, List, [], ◌∷◌, Some, None, is_some, codes, IfOk, OnOk, if◌then◌else◌};
 ghost use Rattle.std.specs.Option.{option_map};
 ghost use Rattle.std.specs.Str.{bytes_eq};
-ghost use Rattle.js_syntax.specs.declared.node_kind.NodeKind.TheVariants.{ExportSpecifier as export_specifier, ExportAllDeclaration as export_all_declaration, ExportNamedDeclaration as export_named_declaration, Specifiers as specifiers};
-ghost use Rattle.js_syntax.specs.Node.{Forest, nothing, absent, row, forest_of, joined};
+ghost use Rattle.js_syntax.specs.declared.node_kind.NodeKind.TheVariants.{ForeignSpecifier as foreign_specifier, ExportAllDeclaration as export_all_declaration, ExportNamedDeclaration as export_named_declaration, Specifiers as specifiers};
+ghost use Rattle.js_syntax.specs.Node.{Forest, nothing, absent, row, forest_of};
 ghost use Rattle.json_shape.specs.Exact.{is_exact_module_name};
 ghost use Rattle.rules.specs.Imports.Passed as rules;
 ghost use Rattle.min_imports.specs.Merging.{imported_from};
-ghost use Rattle.min_imports.specs.Passing.{Told, Bound, found_in, name_alone, reference_alone, is_namespace_alone, exported_alone, only_exported, as_specifiers, list_among, item_passed_on};
+ghost use Rattle.min_imports.specs.Passing.{Told, Bound, found_in, or_found, item_found, bound_below, is_text, exported_as, name_alone, reference_alone, is_namespace_alone, exported_alone, only_exported, as_specifiers, list_among, item_passed_on};
 
-use crate::listed::{Listed, bound_text, names_pass};
+use crate::listed::{Listed, bound_below, names_pass};
 use crate::merged::imported_from;
 use crate::repeated::is_nothing;
 use crate::uses::Uses;
@@ -50,6 +50,15 @@ fn imports_one(kind: &NodeKind) -> bool
     }
 }
 
+fn imported_as(alloc: Global, name: &ModuleName) -> Result<Option<ModuleName>, AllocError>
+    ensures { IfOk result (λ n. n ≡ if is_exact_module_name name.now then Some name.now else None) }
+{
+    if is_exact(name) {
+        return Ok(Some(clone_name(alloc, name)?));
+    }
+    Ok(None)
+}
+
 fn default_name(alloc: Global) -> Result<ModuleName, AllocError>
     ensures { IfOk result (λ n. n ≡ ModuleName.Name (codes "default")) }
 {
@@ -58,33 +67,24 @@ fn default_name(alloc: Global) -> Result<ModuleName, AllocError>
 }
 
 // The export to which it binds one.
-fn imported(alloc: Global, kind: &NodeKind) -> Result<ModuleName, AllocError>
-    requires { is_some (rules.imported kind.now) ≡ true }
-    ensures { IfOk result (λ n. rules.imported kind.now ≡ Some n) }
+fn imported(alloc: Global, kind: &NodeKind) -> Result<Option<ModuleName>, AllocError>
+    ensures { IfOk result (λ n. n ≡ rules.imported kind.now) }
 {
     match kind {
-        NodeKind::ImportSpecifier(name) => clone_name(alloc, name),
-        _ => default_name(alloc),
+        NodeKind::ImportSpecifier(name) => imported_as(alloc, name),
+        NodeKind::ImportDefaultSpecifier => Ok(Some(default_name(alloc)?)),
+        _ => Ok(None),
     }
 }
 
 // ---- the names of an import
-
-fn kind_of(item: &Option<Node>) -> Option<&NodeKind>
-    ensures { option_map (λ k. k.now) result ≡ option_map (λ x. x.kind) item.now }
-{
-    match item {
-        Some(node) => Some(node.kind()),
-        None => None,
-    }
-}
 
 fn bind<'a>(
     names: &mut BTreeMap<&'a str, &'a NodeKind>,
     text: &'a str,
     kind: &'a NodeKind,
 ) -> Result<(), AllocError>
-    ensures { OnOk result ((x : List ℕ) → found_in names.new x ≡ if bytes_eq text.now x && is_some (rules.imported kind.now) then rules.imported kind.now else found_in names.old x) }
+    ensures { OnOk result ((x : List ℕ) → found_in names.new x ≡ or_found (bytes_eq text.now x) kind.now (found_in names.old x)) }
 {
     if imports_one(kind) {
         names.insert(text, kind)?;
@@ -93,20 +93,34 @@ fn bind<'a>(
     Ok(())
 }
 
+fn bind_node<'a>(
+    names: &mut BTreeMap<&'a str, &'a NodeKind>,
+    node: &'a Node,
+) -> Result<(), AllocError>
+    ensures { OnOk result ((x : List ℕ) → found_in names.new x ≡ or_found (is_text (bound_below node.now.below) x) node.now.kind (found_in names.old x)) }
+{
+    match bound_below(node.children()) {
+        Some(text) => {
+            bind(names, text, node.kind())?;
+            Ok(())
+        }
+        None => Ok(()),
+    }
+}
+
 fn bind_item<'a>(
     names: &mut BTreeMap<&'a str, &'a NodeKind>,
     item: &'a Option<Node>,
 ) -> Result<(), AllocError>
-    ensures { OnOk result ((later : Forest) → Bound names.old later → Bound names.new (joined (row (item.now ∷ [])) later)) }
+    ensures { OnOk result ((x : List ℕ) → found_in names.new x ≡ item_found item.now x (found_in names.old x)) }
 {
-    let Some(kind) = kind_of(item) else {
-        return Ok(());
-    };
-    let Some(text) = bound_text(item) else {
-        return Ok(());
-    };
-    bind(names, text, kind)?;
-    Ok(())
+    match item {
+        Some(node) => {
+            bind_node(names, node)?;
+            Ok(())
+        }
+        None => Ok(()),
+    }
 }
 
 // From the last to the first, so that the first of a text is found.
@@ -127,24 +141,33 @@ fn bound_names<'a>(
 
 // ---- the names that are listed
 
+fn foreign_node(
+    alloc: Global,
+    specifier: &Node,
+    exported: &ModuleName,
+    local: ModuleName,
+) -> Result<Node, AllocError>
+    ensures { IfOk result (λ n. n ≡ record { kind = foreign_specifier local exported.now; note = specifier.now.note; below = nothing }) }
+{
+    let exported = clone_name(alloc, exported)?;
+    let kind = NodeKind::ForeignSpecifier { local, exported };
+    let mut node = Node::new(kind, specifier.span(), Vec::new(alloc));
+    node.set_id(specifier.id());
+    Ok(node)
+}
+
 fn foreign(
     alloc: Global,
     specifier: &Node,
     exported: &ModuleName,
     kind: &NodeKind,
-) -> Result<Node, AllocError>
-    requires { is_some (rules.imported kind.now) ≡ true }
-    ensures { IfOk result (λ n. rules.and_passed exported.now specifier.now.note (rules.imported kind.now) (Some nothing) ≡ Some (forest_of n)) }
+) -> Result<Option<Node>, AllocError>
+    ensures { IfOk result (λ o. option_map (λ n. forest_of n) o ≡ rules.and_passed exported.now specifier.now.note (rules.imported kind.now) (Some nothing)) }
 {
-    let local = imported(alloc, kind)?;
-    let exported = clone_name(alloc, exported)?;
-    let mut node = Node::new(
-        NodeKind::ForeignSpecifier { local, exported },
-        specifier.span(),
-        Vec::new(alloc),
-    );
-    node.set_id(specifier.id());
-    Ok(node)
+    match imported(alloc, kind)? {
+        Some(local) => Ok(Some(foreign_node(alloc, specifier, exported, local)?)),
+        None => Ok(None),
+    }
 }
 
 // The name to which a specifier refers that has nothing else.
@@ -174,41 +197,52 @@ fn reference_alone(children: &[Option<Node>]) -> Option<&str>
     }
 }
 
-fn passed_name(
+fn exported_as(kind: &NodeKind) -> Option<&ModuleName>
+    ensures { option_map (λ n. n.now) result ≡ exported_as kind.now }
+{
+    match kind {
+        NodeKind::ExportSpecifier(exported) => Some(exported),
+        _ => None,
+    }
+}
+
+fn passed_name<'a>(
     alloc: Global,
-    bound: &BTreeMap<&str, &NodeKind>,
-    specifier: &Node,
+    bound: &BTreeMap<&'a str, &'a NodeKind>,
+    specifier: &'a Node,
     exported: &ModuleName,
 ) -> Result<Option<Node>, AllocError>
-    requires { specifier.now.kind ≡ export_specifier exported.now }
+    requires { exported_as specifier.now.kind ≡ Some exported.now }
     ensures { IfOk result (λ o. (names : Forest) → Bound bound.now names → option_map (λ n. forest_of n) o ≡ rules.passed names (forest_of specifier.now)) }
 {
     let Some(text) = reference_alone(specifier.children()) else {
         return Ok(None);
     };
-    match bound.get(&text) {
-        Some(kind) => Ok(Some(foreign(alloc, specifier, exported, kind)?)),
-        None => Ok(None),
-    }
+    let Some(kind) = bound.get(&text) else {
+        return Ok(None);
+    };
+    let name = foreign(alloc, specifier, exported, kind)?;
+    Ok(name)
 }
 
-fn passed_one(
+fn passed_one<'a>(
     alloc: Global,
-    bound: &BTreeMap<&str, &NodeKind>,
-    specifier: &Node,
+    bound: &BTreeMap<&'a str, &'a NodeKind>,
+    specifier: &'a Node,
 ) -> Result<Option<Node>, AllocError>
     ensures { IfOk result (λ o. (names : Forest) → Bound bound.now names → option_map (λ n. forest_of n) o ≡ rules.passed names (forest_of specifier.now)) }
 {
-    match specifier.kind() {
-        NodeKind::ExportSpecifier(exported) => passed_name(alloc, bound, specifier, exported),
-        _ => Ok(None),
-    }
+    let Some(exported) = exported_as(specifier.kind()) else {
+        return Ok(None);
+    };
+    let name = passed_name(alloc, bound, specifier, exported)?;
+    Ok(name)
 }
 
-fn passed_item(
+fn passed_item<'a>(
     alloc: Global,
-    bound: &BTreeMap<&str, &NodeKind>,
-    item: &Option<Node>,
+    bound: &BTreeMap<&'a str, &'a NodeKind>,
+    item: &'a Option<Node>,
 ) -> Result<Option<Node>, AllocError>
     ensures { IfOk result (λ o. (names : Forest) → Bound bound.now names → option_map (λ n. forest_of n) o ≡ rules.passed names (row (item.now ∷ []))) }
 {
@@ -218,10 +252,10 @@ fn passed_item(
     }
 }
 
-fn passed_all(
+fn passed_all<'a>(
     alloc: Global,
-    bound: &BTreeMap<&str, &NodeKind>,
-    specifiers: &[Option<Node>],
+    bound: &BTreeMap<&'a str, &'a NodeKind>,
+    specifiers: &'a [Option<Node>],
 ) -> Result<Option<Vec<Option<Node>>>, AllocError>
     ensures { IfOk result (λ o. (names : Forest) → Bound bound.now names → option_map (λ v. row v.items) o ≡ rules.passed names (row specifiers.now)) }
 {
@@ -235,10 +269,10 @@ fn passed_all(
     Ok(Some(passed))
 }
 
-fn passed(
+fn passed<'a>(
     alloc: Global,
-    names: &[Option<Node>],
-    specifiers: &[Option<Node>],
+    names: &'a [Option<Node>],
+    specifiers: &'a [Option<Node>],
 ) -> Result<Option<Vec<Option<Node>>>, AllocError>
     ensures { IfOk result (λ o. option_map (λ v. row v.items) o ≡ rules.passed (row names.now) (row specifiers.now)) }
 {
@@ -263,12 +297,9 @@ fn is_namespace(names: &[Option<Node>]) -> bool
 fn exported_alone(specifier: &Node) -> Option<&ModuleName>
     ensures { option_map (λ n. n.now) result ≡ exported_alone specifier.now.kind specifier.now.below }
 {
-    match specifier.kind() {
-        NodeKind::ExportSpecifier(exported) => match reference_alone(specifier.children()) {
-            Some(_) => Some(exported),
-            None => None,
-        },
-        _ => None,
+    match reference_alone(specifier.children()) {
+        Some(_) => exported_as(specifier.kind()),
+        None => None,
     }
 }
 
@@ -341,12 +372,12 @@ fn export_named(alloc: Global, source: &str, import: &Node, list: Node) -> Resul
     Ok(node)
 }
 
-fn names_passed(
+fn names_passed<'a>(
     alloc: Global,
     source: &str,
     import: &Node,
-    list: &Node,
-    specifiers: &[Option<Node>],
+    list: &'a Node,
+    specifiers: &'a [Option<Node>],
 ) -> Result<Option<Node>, AllocError>
     ensures { IfOk result (λ o. o ≡ rules.export_of source.now import.now.note list.now.note None (rules.passed list.now.below (row specifiers.now))) }
 {
@@ -356,12 +387,12 @@ fn names_passed(
     }
 }
 
-fn export_of(
+fn export_of<'a>(
     alloc: Global,
     source: &str,
     import: &Node,
-    list: &Node,
-    specifiers: &[Option<Node>],
+    list: &'a Node,
+    specifiers: &'a [Option<Node>],
 ) -> Result<Option<Node>, AllocError>
     ensures { IfOk result (λ o. o ≡ rules.export_of source.now import.now.note list.now.note (rules.namespace_passed list.now.below (row specifiers.now)) (rules.passed list.now.below (row specifiers.now))) }
 {
@@ -391,12 +422,12 @@ fn as_specifiers(list: &Node) -> Option<&Node>
     }
 }
 
-fn import_passed(
+fn import_passed<'a>(
     alloc: Global,
     uses: &Uses,
-    listed: &Listed,
+    listed: &Listed<'a>,
     source: &str,
-    import: &Node,
+    import: &'a Node,
 ) -> Result<Option<Node>, AllocError>
     requires told { Told listed.now.texts listed.now.references (row listed.now.specifiers.now) }
     requires source { imported_from import.now.kind ≡ Some source.now }
@@ -408,14 +439,15 @@ fn import_passed(
     if !names_pass(uses, listed, list.children()) {
         return Ok(None);
     }
-    export_of(alloc, source, import, list, listed.specifiers)
+    let passed = export_of(alloc, source, import, list, listed.specifiers)?;
+    Ok(passed)
 }
 
-fn passed_on(
+fn passed_on<'a>(
     alloc: Global,
     uses: &Uses,
-    listed: &Listed,
-    node: &Node,
+    listed: &Listed<'a>,
+    node: &'a Node,
 ) -> Result<Option<Node>, AllocError>
     requires told { Told listed.now.texts listed.now.references (row listed.now.specifiers.now) }
     ensures { IfOk result (λ o. o ≡ rules.passed_on uses.now (row listed.now.specifiers.now) node.now.kind node.now.note node.now.below) }
@@ -427,11 +459,11 @@ fn passed_on(
 }
 
 /// What an item becomes, if it is an import whose names an export lists, and to which nothing else refers.
-pub(crate) fn item_passed_on(
+pub(crate) fn item_passed_on<'a>(
     alloc: Global,
     uses: &Uses,
-    listed: &Listed,
-    item: &Option<Node>,
+    listed: &Listed<'a>,
+    item: &'a Option<Node>,
 ) -> Result<Option<Node>, AllocError>
     requires told { Told listed.now.texts listed.now.references (row listed.now.specifiers.now) }
     ensures { IfOk result (λ o. o ≡ item_passed_on uses.now (row listed.now.specifiers.now) item.now) }

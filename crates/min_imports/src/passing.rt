@@ -6,10 +6,10 @@ ghost use Rattle.js_syntax.specs.Node.{Forest, absent, row, forest_of};
 ghost use Rattle.rules.specs.DeadCode.Rules.{Facts};
 ghost use Rattle.rules.specs.Imports.Passed as rules;
 ghost use Rattle.min_imports.specs.Merging.{or_changed, overlaid, planned, is_missing};
-ghost use Rattle.min_imports.specs.Passing.{Told, Beside, Passes, Covers, Covered, ItemPasses, Plan, Planned, passes_at, item_binds, names_in, is_text, bound_text, exports_names, specifiers_of, item_exports, has_export, imports_names, stretch, stretch_for, first_text, widened, widened_if};
+ghost use Rattle.min_imports.specs.Passing.{Told, Beside, Passes, Covers, Covered, ItemPasses, Plan, Planned, passes_at, imports, NoImports, item_binds, names_in, is_text, bound_text, is_plain, exports_names, specifiers_of, item_exports, has_export, imports_names, stretch, stretch_for, first_text, widened, widened_if};
 
-use crate::listed::{Listed, bound_text, listed_by, listed_text};
-use crate::merged::{as_changed, imported_from, is_missing, names_of, put_changed};
+use crate::listed::{Listed, bound_text, listed_below, listed_by};
+use crate::merged::{imported_from, is_missing, names_of, put_changed};
 use crate::passed::item_passed_on;
 use crate::repeated::keep_staying;
 use crate::uses::Uses;
@@ -43,12 +43,28 @@ fn specifiers_of(children: &[Option<Node>]) -> Option<&[Option<Node>]>
     }
 }
 
+fn is_plain(kind: &NodeKind) -> bool
+    ensures { result ≡ is_plain kind.now }
+{
+    matches!(kind, NodeKind::ExportNamedDeclaration(None))
+}
+
 fn exports_names(node: &Node) -> Option<&[Option<Node>]>
     ensures { option_map (λ s. row s.now) result ≡ exports_names node.now.kind node.now.below }
 {
-    match node.kind() {
-        NodeKind::ExportNamedDeclaration(None) => specifiers_of(node.children()),
-        _ => None,
+    if is_plain(node.kind()) {
+        specifiers_of(node.children())
+    } else {
+        None
+    }
+}
+
+fn is_there(specifiers: Option<&[Option<Node>]>) -> bool
+    ensures { result ≡ is_some (option_map (λ s. row s.now) specifiers) }
+{
+    match specifiers {
+        Some(_) => true,
+        None => false,
     }
 }
 
@@ -56,10 +72,7 @@ fn item_exports(item: &Option<Node>) -> bool
     ensures { result ≡ item_exports item.now }
 {
     match item {
-        Some(node) => match exports_names(node) {
-            Some(_) => true,
-            None => false,
-        },
+        Some(node) => is_there(exports_names(node)),
         None => false,
     }
 }
@@ -155,7 +168,10 @@ fn add_import<'a>(
     ensures { OnOk result (Covered binders.old binders.new (names_in node.now.kind node.now.below) at) }
 {
     match imports_names(node) {
-        Some(names) => add_names(binders, names, at),
+        Some(names) => {
+            add_names(binders, names, at)?;
+            Ok(())
+        }
         None => Ok(()),
     }
 }
@@ -168,7 +184,10 @@ fn add_item<'a>(
     ensures { OnOk result ((x : List ℕ) → stretch binders.new x ≡ widened_if (item_binds item.now x) (stretch binders.old x) at) }
 {
     match item {
-        Some(node) => add_import(binders, node, at),
+        Some(node) => {
+            add_import(binders, node, at)?;
+            Ok(())
+        }
         None => Ok(()),
     }
 }
@@ -177,13 +196,14 @@ fn first_text(specifiers: &[Option<Node>]) -> Option<&str>
     ensures { option_map (λ s. s.now) result ≡ first_text (row specifiers.now) }
 {
     match specifiers {
-        [first, ..] => listed_text(first),
+        [Some(first), ..] => listed_below(first.children()),
+        [None, ..] => None,
         [] => None,
     }
 }
 
 // Where the imports stand that bind the first name that an export lists.
-fn binders_of(binders: &BTreeMap<&str, Within>, specifiers: &[Option<Node>]) -> Option<Within>
+fn binders_of<'a>(binders: &BTreeMap<&'a str, Within>, specifiers: &'a [Option<Node>]) -> Option<Within>
     ensures { result ≡ stretch_for binders.now (first_text (row specifiers.now)) }
 {
     match first_text(specifiers) {
@@ -207,31 +227,35 @@ fn put_passed(changed: &mut Option<Node>, passed: Option<Node>) -> bool
     }
 }
 
-fn pass_at(
+fn pass_at<'a>(
     alloc: Global,
     uses: &Uses,
-    listed: &Listed,
-    item: &Option<Node>,
+    listed: &Listed<'a>,
+    item: &'a Option<Node>,
     stays: bool,
     changed: &mut Option<Node>,
 ) -> Result<bool, AllocError>
     requires told { Told listed.now.texts listed.now.references (row listed.now.specifiers.now) }
+    requires exported { imports changed.old ≡ false }
     ensures goes { IfOk result (λ b. b ≡ is_some (passes_at uses.now (row listed.now.specifiers.now) stays (or_changed item.now changed.old))) }
     ensures changed { OnOk result (changed.new ≡ or_changed changed.old (passes_at uses.now (row listed.now.specifiers.now) stays (or_changed item.now changed.old))) }
 {
     if !stays {
         return Ok(false);
     }
-    let passed = item_passed_on(alloc, uses, listed, as_changed(item, changed))?;
+    if !is_missing(changed) {
+        return Ok(false);
+    }
+    let passed = item_passed_on(alloc, uses, listed, item)?;
     let goes = put_passed(changed, passed);
     Ok(goes)
 }
 
-fn pass_within(
+fn pass_within<'a>(
     alloc: Global,
     uses: &Uses,
-    listed: &Listed,
-    items: &[Option<Node>],
+    listed: &Listed<'a>,
+    items: &'a [Option<Node>],
     staying: &[bool],
     changed: &mut Vec<Option<Node>>,
     within: Within,
@@ -239,11 +263,13 @@ fn pass_within(
     requires told { Told listed.now.texts listed.now.references (row listed.now.specifiers.now) }
     requires even { length changed.old.items ≡ length staying.now }
     requires within { length staying.now ≤ length items.now }
+    requires exported { NoImports changed.old.items }
     requires inside { within.to < length staying.now }
     requires beside { Beside uses.now (row listed.now.specifiers.now) staying.now (overlaid items.now changed.old.items) within.from within.to }
     ensures passes { IfOk result (λ b. Passes (rules.passed_among uses.now (row listed.now.specifiers.now) (planned items.now staying.now changed.old.items)) (planned items.now staying.now changed.old.items) b (planned items.now staying.now changed.new.items)) }
     ensures binds { OnOk result ((j : ℕ) (x : List ℕ) → item_binds (get_or (overlaid items.now changed.new.items) j None) x ≡ true → item_binds (get_or (overlaid items.now changed.old.items) j None) x ≡ true) }
     ensures even { OnOk result (length changed.new.items ≡ length changed.old.items) }
+    ensures exported { OnOk result (NoImports changed.new.items) }
 {
     let mut at = within.from;
     while at <= within.to {
@@ -256,22 +282,24 @@ fn pass_within(
     Ok(false)
 }
 
-fn pass_among(
+fn pass_among<'a>(
     alloc: Global,
     uses: &Uses,
-    binders: &BTreeMap<&str, Within>,
-    items: &[Option<Node>],
+    binders: &BTreeMap<&'a str, Within>,
+    items: &'a [Option<Node>],
     staying: &[bool],
     changed: &mut Vec<Option<Node>>,
-    specifiers: &[Option<Node>],
+    specifiers: &'a [Option<Node>],
 ) -> Result<bool, AllocError>
     requires even { length changed.old.items ≡ length staying.now }
     requires within { length staying.now ≤ length items.now }
+    requires exported { NoImports changed.old.items }
     requires covers { Covers binders.now (overlaid items.now changed.old.items) }
     requires there { (j : ℕ) → j < length staying.now → is_missing (get_or items.now j None) ≡ false }
     ensures passes { IfOk result (λ b. Passes (rules.passed_among uses.now (row specifiers.now) (planned items.now staying.now changed.old.items)) (planned items.now staying.now changed.old.items) b (planned items.now staying.now changed.new.items)) }
     ensures binds { OnOk result ((j : ℕ) (x : List ℕ) → item_binds (get_or (overlaid items.now changed.new.items) j None) x ≡ true → item_binds (get_or (overlaid items.now changed.old.items) j None) x ≡ true) }
     ensures even { OnOk result (length changed.new.items ≡ length changed.old.items) }
+    ensures exported { OnOk result (NoImports changed.new.items) }
 {
     let Some(within) = binders_of(binders, specifiers) else {
         return Ok(false);
@@ -282,22 +310,24 @@ fn pass_among(
 }
 
 // Whether an export goes: an import before it becomes one from its module then.
-fn export_goes(
+fn export_goes<'a>(
     alloc: Global,
     uses: &Uses,
-    binders: &BTreeMap<&str, Within>,
-    items: &[Option<Node>],
+    binders: &BTreeMap<&'a str, Within>,
+    items: &'a [Option<Node>],
     staying: &[bool],
     changed: &mut Vec<Option<Node>>,
-    node: &Node,
+    node: &'a Node,
 ) -> Result<bool, AllocError>
     requires even { length changed.old.items ≡ length staying.now }
     requires within { length staying.now ≤ length items.now }
+    requires exported { NoImports changed.old.items }
     requires covers { Covers binders.now (overlaid items.now changed.old.items) }
     requires there { (j : ℕ) → j < length staying.now → is_missing (get_or items.now j None) ≡ false }
     ensures passes { IfOk result (λ b. Passes (rules.passed_before uses.now (planned items.now staying.now changed.old.items) node.now.kind node.now.below) (planned items.now staying.now changed.old.items) b (planned items.now staying.now changed.new.items)) }
     ensures binds { OnOk result ((j : ℕ) (x : List ℕ) → item_binds (get_or (overlaid items.now changed.new.items) j None) x ≡ true → item_binds (get_or (overlaid items.now changed.old.items) j None) x ≡ true) }
     ensures even { OnOk result (length changed.new.items ≡ length changed.old.items) }
+    ensures exported { OnOk result (NoImports changed.new.items) }
 {
     let Some(specifiers) = exports_names(node) else {
         return Ok(false);
@@ -307,23 +337,25 @@ fn export_goes(
 }
 
 // Behind an item that is missing none goes.
-fn item_goes(
+fn item_goes<'a>(
     alloc: Global,
     uses: &Uses,
-    binders: &BTreeMap<&str, Within>,
+    binders: &BTreeMap<&'a str, Within>,
     ended: bool,
-    items: &[Option<Node>],
+    items: &'a [Option<Node>],
     staying: &[bool],
     changed: &mut Vec<Option<Node>>,
-    item: &Option<Node>,
+    item: &'a Option<Node>,
 ) -> Result<bool, AllocError>
     requires even { length changed.old.items ≡ length staying.now }
     requires within { length staying.now ≤ length items.now }
+    requires exported { NoImports changed.old.items }
     requires covers { Covers binders.now (overlaid items.now changed.old.items) }
     requires there { ended ≡ false → (j : ℕ) → j < length staying.now → is_missing (get_or items.now j None) ≡ false }
     ensures passes { IfOk result (λ b. ItemPasses uses.now ended (planned items.now staying.now changed.old.items) item.now b (planned items.now staying.now changed.new.items)) }
     ensures binds { OnOk result ((j : ℕ) (x : List ℕ) → item_binds (get_or (overlaid items.now changed.new.items) j None) x ≡ true → item_binds (get_or (overlaid items.now changed.old.items) j None) x ≡ true) }
     ensures even { OnOk result (length changed.new.items ≡ length changed.old.items) }
+    ensures exported { OnOk result (NoImports changed.new.items) }
 {
     if ended {
         return Ok(false);
