@@ -6,6 +6,7 @@ pub mod Lists
 pub mod Listing
 pub mod Naming
 pub mod Binding
+pub mod Going
 pub mod Planning
 pub mod Finding
 pub mod Laying

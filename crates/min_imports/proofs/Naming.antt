@@ -3,7 +3,7 @@ use Rattle.std.proofs.Common.{◌≡◌, ◌∙◌, ◌<◌, ◌≤◌, ◌+◌,
 use Rattle.std.specs.BTreeMap as tree
 use Rattle.std.specs.BTreeMap.{BTreeMap}
 use Rattle.std.specs.Cmp.Lexicographic.{slice_cmp}
-use Rattle.std.specs.Option.{option_map}
+use Rattle.std.specs.Map.{lookup}
 use Rattle.std.specs.Ordering.{nat_cmp}
 use Rattle.std.specs.Str.{bytes_eq}
 use Rattle.std.proofs.lemmas.List.{drop_all}
@@ -12,7 +12,7 @@ use Rattle.js_syntax.specs.declared.node_kind.NodeKind.{NodeKind as Kind}
 use Rattle.js_syntax.specs.declared.node_kind.NodeKind.TheVariants.{Specifiers as specifiers, BindingName as binding_name, ReferenceName as reference_name, ImportDeclaration as import_declaration, ExportSpecifier as export_specifier, ForeignSpecifier as foreign_specifier}
 use Rattle.js_syntax.specs.declared.value.ModuleName.{ModuleName}
 use Rattle.js_syntax.specs.Node.{Tree, Forest, Note, nothing, node, absent, joined, forest_of, row}
-use Rattle.js_tree.proofs.Rows.{front_of, joined_assoc, row_push}
+use Rattle.js_tree.proofs.Rows.{front_of, joined_nothing, joined_assoc, row_push}
 use Rattle.steps.specs.Allowed.PassedExports.{may_pass}
 use Rattle.rules.specs.DeadCode.Rules.{Facts}
 use Rattle.rules.specs.Imports.Passed.{are_passed_alone, imported, bound_in, and_passed, passed, namespace_passed, export_of, passed_on}
@@ -60,7 +60,7 @@ text_found o p k x r s is said = said ∙ ap (λ q. or_found (is_text q x) k s) 
 -- ---- all names, from the last to the first
 
 pub none_bound : (m : BTreeMap (Bor (List ℕ)) (Bor Kind)) (names : List (Option Tree)) (n : ℕ) → m.entries ≡ [] → n ≡ length names → Bound m (row (drop n names))
-none_bound m names n is all = λ x. ap (λ l. imported_there (Rattle.std_collections.specs.Map.lookup (tree.is_at (λ k. slice_cmp nat_cmp x k.now)) l)) is ∙ ap (λ l. bound_in (row l) x) (sym (drop_all n names (Prim.omega (arith, all))))
+none_bound m names n is all = λ x. ap (λ l. imported_there (lookup (tree.is_at (λ k. slice_cmp nat_cmp x k.now)) l)) is ∙ ap (λ l. bound_in (row l) x) (sym (drop_all n names (Prim.omega (arith, all))))
 
 pub more_bound : (m n : BTreeMap (Bor (List ℕ)) (Bor Kind)) (names : List (Option Tree)) (at was : ℕ) (t : Option Tree) → at + 1 ≡ was → was ≤ length names → t ≡ get_or names at t → ((x : List ℕ) → found_in n x ≡ item_found t x (found_in m x))
     → Bound m (row (drop was names)) → Bound n (row (drop at names))
@@ -166,7 +166,7 @@ module _ (bound : BTreeMap (Bor (List ℕ)) (Bor Kind)) (ts : List (Option Tree)
       ap (λ o. both_rows (Some (row names)) (both_rows o (passed later (row (drop (i + 1) ts))))) (said later told) ∙ ap (both_rows (Some (row names))) (sym (next later i t h is)) ∙ so later told
 
   pub all_so : (i : ℕ) (names : List (Option Tree)) → length ts ≤ i → SoFar i names → (later : Forest) → Bound bound later → Some (row names) ≡ passed later (row ts)
-  all_so i names all so later told = ap Some (sym (Rattle.js_tree.proofs.Rows.joined_nothing (row names))) ∙ ap (λ l. both_rows (Some (row names)) (passed later (row l))) (sym (drop_all i ts all)) ∙ so later told
+  all_so i names all so later told = ap Some (sym (joined_nothing (row names))) ∙ ap (λ l. both_rows (Some (row names)) (passed later (row l))) (sym (drop_all i ts all)) ∙ so later told
 
 -- a name that is found, or isn't
 module _ (bound : BTreeMap (Bor (List ℕ)) (Bor Kind)) (x : Tree) (exported : ModuleName) (is : exported_as x.kind ≡ Some exported) where

@@ -252,7 +252,7 @@ Holds (Some w) j = (w.from ≤ j) × (j ≤ w.to)
 
 abbrev pub EndsBy : Option Within → ℕ → Type 0
 EndsBy None n = Unit {0}
-EndsBy (Some w) n = w.to < n
+EndsBy (Some w) n = (w.from < n) × (w.to < n)
 
 pub record Covers (binders : BTreeMap (Bor (List ℕ)) Within) (items : List (Option Tree)) : Type 0 where
   pub holds : (j : ℕ) (x : List ℕ) → item_binds (get_or items j None) x ≡ true → Holds (stretch binders x) j
