@@ -14,6 +14,7 @@ mod Stating
 mod Ending
 mod Repeating
 mod Merging
+mod Passing
 mod Seeing
 mod Emptying
 mod Thinning

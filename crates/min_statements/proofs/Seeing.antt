@@ -25,7 +25,7 @@ use Rattle.min_traverse.specs.declared.slot.Inner.TheVariants as inner
 use Rattle.rules.specs.DeadCode.Rules.{Facts, Where, where_of, scope_of, has_dead, is_body, becomes_empty, is_item_under, is_item, value_of_list_stays, becomes_stated, value_below}
 use Rattle.rules.specs.Expressions.Jumps.{has_inert, left_if, list_reached}
 use Rattle.min_statements.specs.Acts.{has_gone, list_changes}
-use Rattle.min_statements.specs.Own.{Visited, is_written, statement_changes}
+use Rattle.min_statements.specs.Own.{Visited, is_written, statement_changes, program_changes}
 use Rattle.rules.specs.DeadCode.Quiet.{EachNode, IsQuietAt, IsQuiet}
 use Rattle.rules.proofs.DeadCode.Walked.{each_both, quiet_nodes}
 use Rattle.min_traverse.specs.Lawful.{or_else}
@@ -51,6 +51,7 @@ use Rattle.rules.specs.Expressions.Settled.{IsSettledAt, IsSettled}
 use Rattle.rules.proofs.Expressions.Walked.{settled_nodes}
 use Rattle.rules.specs.Imports.Repeated.{has_repeated, once_if, list_once}
 use Rattle.rules.specs.Imports.Merged.{is_outermost, with_below, below_together, come_together}
+use Rattle.rules.specs.Imports.Passed.{below_passed, pass_on}
 use Rattle.rules.specs.Imports.Rules.{pruned}
 use Rattle.rules.specs.Imports.Quiet.{IsUsedAt, ImportsUsed}
 use Rattle.rules.proofs.Imports.Walked.{imports_used}
@@ -73,7 +74,7 @@ becomes p x = becomes_so (spot_of p) x.note x.kind x.below
 record IsAlive (f : Facts) (p : Place) (x : Tree) : Type 0 where
   list : outer_slot (above_place p) x.kind ≡ outer.Statements → list_changes f (where_of p) x.below ≡ false
   statement : outer_slot (above_place p) x.kind ≡ outer.Statement → statement_changes f p x ≡ false
-  whole : outer_slot (above_place p) x.kind ≡ outer.Program → is_some (come_together f p x) ≡ false
+  whole : outer_slot (above_place p) x.kind ≡ outer.Program → program_changes f p x ≡ false
   expression : middle_slot (above_place p) x.kind ≡ middle.Expression → is_some (becomes p x) ≡ false
 
 abbrev Same : Names → Seen → Names → Seen → Type 0
@@ -121,7 +122,7 @@ module _ (s : Names) (k : Seen) (x : Tree) (s' : Names) (k' : Seen) where
     same : Same s k s' k'
     list : o ≡ outer.Statements → list_changes (facts_of s k) (where_of k.place) x.below ≡ false
     statement : o ≡ outer.Statement → statement_changes (facts_of s k) k.place x ≡ false
-    whole : o ≡ outer.Program → is_some (come_together (facts_of s k) k.place x) ≡ false
+    whole : o ≡ outer.Program → program_changes (facts_of s k) k.place x ≡ false
 
   left_outer : (o : Outer) → Called Visited is_written (exit_outer o) s k x s' k' → Left o
   left_outer outer.Statements h = record { same = (sym h.names_same, sym h.context_same); list = λ e. h.none; statement = λ e. absurd Prim.cc; whole = λ e. absurd Prim.cc }
@@ -169,7 +170,7 @@ at_node p x s k s' k' at v inside =
         statement = λ q.
             subst (λ g. statement_changes g p x ≡ false) facts_2 (subst (λ z. statement_changes (facts_of v.exits.s2 v.exits.k2) z x ≡ false) place_2 (f.statement q));
         whole = λ q.
-            subst (λ g. is_some (come_together g p x) ≡ false) facts_2 (subst (λ z. is_some (come_together (facts_of v.exits.s2 v.exits.k2) z x) ≡ false) place_2 (f.whole q));
+            subst (λ g. program_changes g p x ≡ false) facts_2 (subst (λ z. program_changes (facts_of v.exits.s2 v.exits.k2) z x ≡ false) place_2 (f.whole q));
         expression = λ q. subst (λ z. is_some (becomes z x) ≡ false) place_1 (e.expression q);
       },
       subst (λ g. EachNode (IsAlive g) (below p (above_of x.kind x.note)) x.below) facts_1 inside.each,
@@ -352,8 +353,22 @@ none_apart f p x h = by (is_outermost p.ancestors) refl
     by true e = program_there f p x.kind x.note x.below (none_above p.ancestors e) h
     by false e = ap (λ b. if b && not (scope_has f.scoping 0 scope_flag.direct_eval) then with_below x (below_together x.kind x.below) else None) e
 
+-- and none becomes an export
+program_keeps : (f : Facts) (p : Place) (k : Kind) (n : Note) (b : Forest) → p.ancestors ≡ [] → (let x : Tree = record { kind = k; note = n; below = b } in (outer_slot (above_place p) k ≡ outer.Program → is_some (pass_on f p x) ≡ false) → pass_on f p x ≡ None)
+program_keeps f p (Kind.Program source) n b none h =
+    let x : Tree = record { kind = Kind.Program source; note = n; below = b } in
+    none_is (pass_on f p x) (h (ap {A = List Ancestor} (λ above. outer_slot (nearest above 0) (Kind.Program source)) none))
+program_keeps f p k n b none h = none_either_way (is_outermost p.ancestors && not (scope_has f.scoping 0 scope_flag.direct_eval))
+
+none_passes : (f : Facts) (p : Place) (x : Tree) → (outer_slot (above_place p) x.kind ≡ outer.Program → is_some (pass_on f p x) ≡ false) → pass_on f p x ≡ None
+none_passes f p x h = by (is_outermost p.ancestors) refl
+  where
+    by : (b : Bool) → is_outermost p.ancestors ≡ b → pass_on f p x ≡ None
+    by true e = program_keeps f p x.kind x.note x.below (none_above p.ancestors e) h
+    by false e = ap (λ b. if b && not (scope_has f.scoping 0 scope_flag.direct_eval) then with_below x (below_passed f x.kind x.below) else None) e
+
 used_at : (f : Facts) (p : Place) (x : Tree) → IsAlive f p x → HasSlots p x → IsUsedAt f p x
-used_at f p x h slots = (none_unused f p x.note x.kind x.below (λ e. h.statement (slots.statement e)), none_again f (where_of p) x.note x.kind x.below (λ e. h.list (slots.list e)), none_apart f p x h.whole)
+used_at f p x h slots = (none_unused f p x.note x.kind x.below (λ e. h.statement (slots.statement e)), none_again f (where_of p) x.note x.kind x.below (λ e. h.list (slots.list e)), none_apart f p x (λ e. (neither (is_some (come_together f p x)) (is_some (pass_on f p x)) (h.whole e)).0), none_passes f p x (λ e. (neither (is_some (come_together f p x)) (is_some (pass_on f p x)) (h.whole e)).1))
 
 quiet_at : (f : Facts) (p : Place) (x : Tree) → IsAlive f p x → HasSlots p x → IsQuietAt f p x
 quiet_at f p x h slots = record {

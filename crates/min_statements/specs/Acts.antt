@@ -6,6 +6,7 @@ use Rattle.min_traverse.specs.Lawful.{Rule}
 use Rattle.rules.specs.DeadCode.Rules.{Facts, Where, where_of, has_dead, trimmed, emptied, stated}
 use Rattle.rules.specs.Expressions.Jumps.{has_inert, emptied_behind}
 use Rattle.rules.specs.Imports.Merged.{come_together}
+use Rattle.rules.specs.Imports.Passed.{pass_on}
 use Rattle.rules.specs.Imports.Repeated.{has_repeated, asked_once}
 use Rattle.rules.specs.Imports.Rules.{pruned}
 use Rattle.min_statements.specs.Walker.{Names, facts_of}
@@ -47,3 +48,7 @@ prune names c x = pruned (facts_of names c) (where_of c.place) x
 -- of a module, imports come together
 abbrev pub merge : Names → Seen → Tree → Option Tree
 merge names c x = come_together (facts_of names c) c.place x
+
+-- and one that only feeds an export becomes an export from its module
+abbrev pub pass : Names → Seen → Tree → Option Tree
+pass names c x = pass_on (facts_of names c) c.place x

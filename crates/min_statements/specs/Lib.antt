@@ -1,5 +1,6 @@
 pub mod Names
 pub mod Merged
+pub mod Passed
 pub mod Walker
 pub mod Shed
 pub mod Acts

@@ -20,6 +20,7 @@ use Rattle.rules.specs.Expressions.Known.{at_expression_end}
 use Rattle.rules.specs.Expressions.EmptyAlternates.{is_last}
 use Rattle.rules.specs.Expressions.Untaken.{if_ends}
 use Rattle.rules.specs.Imports.Merged.{come_together}
+use Rattle.rules.specs.Imports.Passed.{pass_on}
 use Rattle.rules.specs.Imports.Rules.{pruned}
 use Rattle.min_statements.specs.Acts.{list_changes}
 use Rattle.min_statements.specs.Walker.{Names, facts_of}
@@ -61,6 +62,10 @@ is_written h = false
 abbrev pub statement_changes : Facts → Place → Tree → Bool
 statement_changes f p x = becomes_empty f p x.kind x.below || becomes_stated f p x.kind x.below || is_some (if_ends (is_last p) x.note x.kind x.below) || is_some (pruned f (where_of p) x)
 
+-- imports of a program come together, or one that only feeds an export becomes one
+abbrev pub program_changes : Facts → Place → Tree → Bool
+program_changes f p x = is_some (come_together f p x) || is_some (pass_on f p x)
+
 -- nothing changed, and of what the hook looks at nothing goes or becomes another
 pub record Found (dead : Bool) (names : Names) (c : Seen) (later : Names) (d : Seen) : Type 0 where
   pub names_same : later ≡ names
@@ -71,5 +76,5 @@ abbrev pub Visited : Hook → Names → Seen → Tree → Names → Seen → Typ
 Visited hook.ExitStatements names c x later d = Found (list_changes (facts_of names c) (where_of c.place) x.below) names c later d
 Visited hook.ExitStatement names c x later d = Found (statement_changes (facts_of names c) c.place x) names c later d
 Visited hook.ExitExpression names c x later d = Found (is_some (at_expression_end c x)) names c later d
-Visited hook.ExitProgram names c x later d = Found (is_some (come_together (facts_of names c) c.place x)) names c later d
+Visited hook.ExitProgram names c x later d = Found (program_changes (facts_of names c) c.place x) names c later d
 Visited h names c x later d = Unit {0}

@@ -1,4 +1,13 @@
 // Imports of a module that only feed exports become exports from their modules.
+ghost use Rattle.std.specs.Prelude.{◌≡◌, ◌≤◌, List, length, Option, Some, [], ◌∷◌, true, IfOk, OnErr};
+ghost use Rattle.std.specs.Option.{option_map};
+ghost use Rattle.js_syntax.specs.Node.{Tree, row, forest_of};
+ghost use Rattle.scope_counts.specs.Counts.{ids};
+ghost use Rattle.min_context.specs.Edited.{evals, Leaves};
+ghost use Rattle.min_imports.specs.Passing.{left_out};
+ghost use Rattle.min_traverse.specs.Lawful.{Does};
+ghost use Rattle.min_statements.specs.Acts as acts;
+ghost use Rattle.min_statements.specs.Passed.{list_of, PlannedBelow, FitsBelow, PutBelow};
 
 use crate::facts::Facts;
 use crate::merged::{is_statements, may_come_together};
@@ -11,6 +20,7 @@ use std::alloc::{AllocError, Global};
 // ---- the list
 
 fn list_in(list: &Node) -> Option<&[Option<Node>]>
+    ensures { option_map (λ s. row s.now) result ≡ list_of (forest_of list.now) }
 {
     if is_statements(list.kind()) {
         Some(list.children())
@@ -20,6 +30,7 @@ fn list_in(list: &Node) -> Option<&[Option<Node>]>
 }
 
 fn list_of(children: &[Option<Node>]) -> Option<&[Option<Node>]>
+    ensures { option_map (λ s. row s.now) result ≡ list_of (row children.now) }
 {
     match children {
         [Some(list)] => list_in(list),
@@ -34,20 +45,24 @@ fn plan_list(
     facts: &Facts,
     children: &[Option<Node>],
 ) -> Result<Option<Passing>, AllocError>
+    ensures planned { IfOk result (λ p. PlannedBelow facts.now (row children.now) p) }
 {
+    let Some(items) = list_of(children) else {
+        return Ok(None);
+    };
     let uses = Uses {
         scoping: facts.scoping,
         exported: facts.exported,
     };
-    match list_of(children) {
-        Some(items) => plan_passing(alloc, &uses, items),
-        None => Ok(None),
-    }
+    let passing = plan_passing(alloc, &uses, items)?;
+    Ok(passing)
 }
 
 // ---- the context is told
 
 fn drop_item(item: &Option<Node>, ctx: &mut MinifierTraverseCtx)
+    requires asked { ctx.old.requested ≡ true }
+    ensures left { Leaves ctx.old (λ r. ids r (row (item.now ∷ []))) (evals (row (item.now ∷ []))) ctx.new }
 {
     if let Some(node) = item {
         ctx.drop_statement(node);
@@ -55,6 +70,9 @@ fn drop_item(item: &Option<Node>, ctx: &mut MinifierTraverseCtx)
 }
 
 fn drop_items(items: &[Option<Node>], staying: &[bool], ctx: &mut MinifierTraverseCtx)
+    requires within { length staying.now ≤ length items.now }
+    requires asked { ctx.old.requested ≡ true }
+    ensures left { Leaves ctx.old (λ r. ids r (left_out staying.now items.now)) (evals (left_out staying.now items.now)) ctx.new }
 {
     let mut at = 0;
     while at < staying.len() {
@@ -66,15 +84,21 @@ fn drop_items(items: &[Option<Node>], staying: &[bool], ctx: &mut MinifierTraver
 }
 
 fn drop_exports(children: &[Option<Node>], staying: &[bool], ctx: &mut MinifierTraverseCtx)
+    requires within { (items : List (Option Tree)) → list_of (row children.now) ≡ Some (row items) → length staying.now ≤ length items }
+    requires asked { ctx.old.requested ≡ true }
+    ensures left { (items : List (Option Tree)) → list_of (row children.now) ≡ Some (row items) → Leaves ctx.old (λ r. ids r (left_out staying.now items)) (evals (left_out staying.now items)) ctx.new }
 {
-    if let Some(items) = list_of(children) {
-        drop_items(items, staying, ctx);
+    match list_of(children) {
+        Some(items) => drop_items(items, staying, ctx),
+        None => {}
     }
 }
 
 // ---- and the list as it is left
 
 fn pass_in(alloc: Global, list: &mut Node, passing: Passing)
+    requires fits { FitsBelow passing.staying.items passing.changed.items (forest_of list.old) }
+    ensures { PutBelow passing.staying.items passing.changed.items (forest_of list.old) (forest_of list.new) }
 {
     let mut items = list.replace_children(Vec::new(alloc));
     pass_on(&mut items, passing);
@@ -82,13 +106,18 @@ fn pass_in(alloc: Global, list: &mut Node, passing: Passing)
 }
 
 fn pass_child(alloc: Global, child: &mut Option<Node>, passing: Passing)
+    requires fits { FitsBelow passing.staying.items passing.changed.items (row (child.old ∷ [])) }
+    ensures { PutBelow passing.staying.items passing.changed.items (row (child.old ∷ [])) (row (child.new ∷ [])) }
 {
-    if let Some(list) = child {
-        pass_in(alloc, list, passing);
+    match child {
+        Some(list) => pass_in(alloc, list, passing),
+        None => {}
     }
 }
 
 fn pass_only(alloc: Global, children: &mut [Option<Node>], passing: Passing)
+    requires fits { FitsBelow passing.staying.items passing.changed.items (row children.old) }
+    ensures { PutBelow passing.staying.items passing.changed.items (row children.old) (row children.new) }
 {
     if children.len() == 1 {
         pass_child(alloc, &mut children[0], passing);
@@ -96,6 +125,10 @@ fn pass_only(alloc: Global, children: &mut [Option<Node>], passing: Passing)
 }
 
 fn pass_below(alloc: Global, node: &mut Node, passing: Passing)
+    requires fits { FitsBelow passing.staying.items passing.changed.items node.old.below }
+    ensures below { PutBelow passing.staying.items passing.changed.items node.old.below node.new.below }
+    ensures kind { node.new.kind ≡ node.old.kind }
+    ensures note { node.new.note ≡ node.old.note }
 {
     let mut children = node.replace_children(Vec::new(alloc));
     pass_only(alloc, children.as_mut_slice(), passing);
@@ -110,6 +143,8 @@ pub fn merge_import_export(
     node: &mut Node,
     ctx: &mut MinifierTraverseCtx,
 ) -> Result<bool, AllocError>
+    ensures does { IfOk result (λ b. Does (acts.pass names.now) ctx.old node.old b ctx.new node.new) }
+    ensures refused { OnErr result ((node.new ≡ node.old) × (ctx.new ≡ ctx.old)) }
 {
     if !may_come_together(names, node, ctx) {
         return Ok(false);
