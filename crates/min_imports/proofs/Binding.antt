@@ -72,6 +72,10 @@ pub exports_each : AsksEach has_export
 exports_each None ts = refl
 exports_each (Some x) ts = ap (λ b. b || has_export (row ts)) (sym (or_false (is_some (exports_names x.kind x.below))))
 
+pub one_exports : (t : Option Tree) → has_export (row (t ∷ [])) ≡ item_exports t
+one_exports None = refl
+one_exports (Some x) = or_false (is_some (exports_names x.kind x.below))
+
 module _ (f : Facts) (before : Forest) where
   exported_not : (b : Forest) → exports_names (export_named_declaration None) b ≡ None → passed_before f before (export_named_declaration None) b ≡ None
   exported_not nothing is = refl

@@ -274,7 +274,8 @@ fn pass_within<'a>(
     let mut at = within.from;
     while at <= within.to {
         let slot = &mut changed[at];
-        if pass_at(alloc, uses, listed, &items[at], staying[at], slot)? {
+        let goes = pass_at(alloc, uses, listed, &items[at], staying[at], slot)?;
+        if goes {
             return Ok(true);
         }
         at += 1;
