@@ -176,6 +176,38 @@ module _ (f : Facts) (listed : Forest) (items : List (Option Tree)) (bs : List B
         by None h = absurd cc
         by (Some q) h = let o = subst (λ s. EndsBy s (length (overlaid items cs))) h (covers.ends q) in Prim.omega (arith, o.1, over_even)
 
+-- ---- as code finds it
+
+pub slot_no_import : (cs : List (Option Tree)) (at : ℕ) (c : Option Tree) → NoImports cs → at < length cs → c ≡ get_or cs at c → imports c ≡ false
+slot_no_import cs at c none h is = ap imports (get_or_read_under cs at (length cs) c None is h refl) ∙ none at
+
+module _ (f : Facts) (listed : Forest) (bs : List Bool) (ys : List (Option Tree)) (at : ℕ) (before : (j : ℕ) → j < at → passes_at f listed (get_or bs j false) (get_or ys j None) ≡ None) where
+  pub before_next : passes_at f listed (get_or bs at false) (get_or ys at None) ≡ None → (j : ℕ) → j < at + 1 → passes_at f listed (get_or bs j false) (get_or ys j None) ≡ None
+  before_next none j h = ⊎_elim
+      (λ e. ap (λ i. passes_at f listed (get_or bs i false) (get_or ys i None)) e ∙ none)
+      (λ other. ⊎_elim (λ l. before j l) (λ l. absurd (Prim.omega (arith, h, l))) (cases_last j at other))
+      (cases_eq j at)
+
+  pub none_of_all : (to : ℕ) → to < at → ((j : ℕ) → to < j → passes_at f listed (get_or bs j false) (get_or ys j None) ≡ None) → (j : ℕ) → passes_at f listed (get_or bs j false) (get_or ys j None) ≡ None
+  none_of_all to past behind j = ⊎_elim
+      (λ e. behind j (Prim.omega (arith, past, e)))
+      (λ other. ⊎_elim (λ l. before j l) (λ l. behind j (Prim.omega (arith, past, l))) (cases_last j at other))
+      (cases_eq j at)
+
+pub ended_goes : (f : Facts) (ended : Bool) (before : Forest) (x : Option Tree) → ended ≡ true → ItemPasses f ended before x false before
+ended_goes f true before x is = (refl, refl)
+ended_goes f false before x is = absurd (true≢false (sym is))
+
+pub none_goes : (f : Facts) (ended : Bool) (before : Forest) (x : Option Tree) → x ≡ None → ItemPasses f ended before x false before
+none_goes f true before x is = (refl, refl)
+none_goes f false before None is = (refl, refl)
+none_goes f false before (Some x) is = absurd cc
+
+pub some_goes : (f : Facts) (ended : Bool) (before : Forest) (x : Option Tree) (t : Tree) (g : Bool) (after : Forest) → ended ≡ false → x ≡ Some t → Passes (passed_before f before t.kind t.below) before g after → ItemPasses f ended before x g after
+some_goes f true before x t g after isnt is went = absurd (true≢false isnt)
+some_goes f false before None t g after isnt is went = absurd cc
+some_goes f false before (Some y) t g after isnt is went = let same : t ≡ y = cc (sym is) in subst (λ (z : Tree). Passes (passed_before f before z.kind z.below) before g after) same went
+
 -- ---- what is left of all items
 
 abbrev pub go_on : Facts → (ended : Bool) → (before items : Forest) → Forest
@@ -316,6 +348,10 @@ there_more items i x false ended is h at there isnt j l = ⊎_elim
     (λ e. ap is_missing (ap (λ k. get_or items k None) e ∙ sym (get_or_read_under items i (length items) x None at h refl)) ∙ sym is ∙ isnt)
     (λ other. ⊎_elim (λ less. there refl j less) (λ more. absurd (Prim.omega (arith, l, more))) (cases_last j i other))
     (cases_eq j i)
+
+pub there_still : (items : List (Option Tree)) (was ended : Bool) (x : Option Tree) (bs bits : List Bool) → ended ≡ was || is_missing x → length bits ≡ length bs → (was ≡ false → (j : ℕ) → j < length bs → is_missing (get_or items j None) ≡ false) → ended ≡ false → (j : ℕ) → j < length bits → is_missing (get_or items j None) ≡ false
+there_still items true ended x bs bits is same there isnt j h = absurd (true≢false (sym is ∙ isnt))
+there_still items false ended x bs bits is same there isnt j h = there refl j (Prim.omega (arith, h, same))
 
 pub so_more : (f : Facts) (items : List (Option Tree)) (i : ℕ) (was ended : Bool) (binders behind : BTreeMap (Bor (List ℕ)) Within) (bs more : List Bool) (cs mid all : List (Option Tree)) (x : Option Tree) (g : Bool) → So f items i was binders bs cs → i < length items → x ≡ get_or items i x
     → ended ≡ was || is_missing x → ItemPasses f ended (planned items bs cs) x g (planned items bs mid) → length mid ≡ length cs → ((j : ℕ) (q : List ℕ) → item_binds (get_or (overlaid items mid) j None) q ≡ true → item_binds (get_or (overlaid items cs) j None) q ≡ true) → NoImports mid

@@ -5,7 +5,6 @@ use Rattle.js_syntax.specs.declared.node_kind.NodeKind.{NodeKind as Kind}
 use Rattle.js_syntax.specs.declared.node_kind.NodeKind.TheVariants.{Program as program, Statements as statements, ImportDeclaration as import_declaration, Specifiers as specifiers, BindingName as binding_name, ExportNamedDeclaration as export_named_declaration}
 use Rattle.js_syntax.specs.declared.scalar.SourceType.TheVariants as source_type
 use Rattle.js_syntax.specs.Node.{Forest, Tree, Note, nothing, node, absent, joined, forest_of, row}
-use Rattle.js_tree.proofs.Rows.{joined_nothing}
 use Rattle.scope_counts.specs.Edits.{plug}
 use Rattle.scope_counts.specs.Counts.{by_id, ids}
 use Rattle.scope_counts.proofs.Leaving.{ids_joined}
@@ -33,7 +32,7 @@ use Rattle.rules.proofs.Imports.Passing.{rule_edits, rule_lighter, rule_refers, 
 use Rattle.min_statements.specs.Acts.{merge, pass}
 use Rattle.min_statements.specs.Merged.{is_module, is_statements}
 use Rattle.min_statements.specs.Own.{AnyEdit, Own, Found, program_changes}
-use Rattle.min_statements.specs.Passed.{list_of, with_items, PlannedList, PlannedBelow, FitsBelow, PutBelow}
+use Rattle.min_statements.specs.Passed.{list_of, with_items, out_one, PlannedList, PlannedBelow, FitsBelow, PutBelow}
 use Rattle.min_statements.specs.Walker.{Names, facts_of}
 use Rattle.min_statements.proofs.Acting.{known, moves, stayed}
 use Rattle.min_statements.proofs.Calls.{is_no_name, CallsStay}
@@ -220,23 +219,90 @@ out_more bs ts at b x h within bit is =
     taken (c ∷ l) zero g = refl
     taken (c ∷ l) (suc i) g = ap suc (taken l i (Prim.omega (arith, g)))
 
-pub out_stays : {c d : Seen} (bs : List Bool) (ts : List (Option Tree)) (at : ℕ) (b : Bool) (x : Option Tree) → at < length bs → length bs ≤ length ts → b ≡ get_or bs at b → x ≡ get_or ts at x → b ≡ true → OutBefore bs ts at c d → OutBefore bs ts (at + 1) c d
-out_stays {c = c} {d = d} bs ts at b x h within bit is does out =
-    subst (λ t. Leaves c (λ r. ids r t) (evals t) d) (sym (out_more bs ts at b x h within bit is ∙ ap (λ q. joined (left_out (take at bs) ts) (if q then nothing else row (x ∷ []))) does ∙ joined_nothing (left_out (take at bs) ts))) out
+pub none_out : (c : Seen) (bs : List Bool) (ts : List (Option Tree)) → OutBefore bs ts 0 c c
+none_out c bs ts = leaves_none c
 
-pub out_goes : {c d e : Seen} (bs : List Bool) (ts : List (Option Tree)) (at : ℕ) (b : Bool) (x : Option Tree) → at < length bs → length bs ≤ length ts → b ≡ get_or bs at b → x ≡ get_or ts at x → b ≡ false → OutBefore bs ts at c d
-    → Leaves d (λ r. ids r (row (x ∷ []))) (evals (row (x ∷ []))) e → OutBefore bs ts (at + 1) c e
-out_goes {c = c} {e = e} bs ts at b x h within bit is isnt out one =
+pub out_next : {c d e : Seen} (bs : List Bool) (ts : List (Option Tree)) (at : ℕ) (b : Bool) (x : Option Tree) → at < length bs → length bs ≤ length ts → b ≡ get_or bs at b → x ≡ get_or ts at x → OutBefore bs ts at c d
+    → Leaves d (λ r. ids r (out_one b x)) (evals (out_one b x)) e → OutBefore bs ts (at + 1) c e
+out_next {c = c} {e = e} bs ts at b x h within bit is out one =
     let all = left_out (take at bs) ts in
-    subst (λ t. Leaves c (λ r. ids r t) (evals t) e) (sym (out_more bs ts at b x h within bit is ∙ ap (λ q. joined all (if q then nothing else row (x ∷ []))) isnt))
-    (leaves_more out one (λ r. ids_joined (by_id r) all (row (x ∷ []))) (evals_joined all (row (x ∷ []))))
+    subst (λ t. Leaves c (λ r. ids r t) (evals t) e) (sym (out_more bs ts at b x h within bit is)) (leaves_more out one (λ r. ids_joined (by_id r) all (out_one b x)) (evals_joined all (out_one b x)))
+
+pub one_stays : (c : Seen) (b : Bool) (x : Option Tree) → b ≡ true → Leaves c (λ r. ids r (out_one b x)) (evals (out_one b x)) c
+one_stays c b x is = subst (λ (q : Bool). Leaves c (λ r. ids r (out_one q x)) (evals (out_one q x)) c) (sym is) (leaves_none c)
+
+pub one_goes : {c d : Seen} (b : Bool) (x : Option Tree) → b ≡ false → Leaves c (λ r. ids r (row (x ∷ []))) (evals (row (x ∷ []))) d → Leaves c (λ r. ids r (out_one b x)) (evals (out_one b x)) d
+one_goes {c = c} {d = d} b x is l = subst (λ (q : Bool). Leaves c (λ r. ids r (out_one q x)) (evals (out_one q x)) d) (sym is) l
 
 pub all_out : {c d : Seen} (bs : List Bool) (ts : List (Option Tree)) (at : ℕ) → length bs ≤ at → OutBefore bs ts at c d → Leaves c (λ r. ids r (left_out bs ts)) (evals (left_out bs ts)) d
 all_out {c = c} {d = d} bs ts at all out = subst (λ l. Leaves c (λ r. ids r (left_out l ts)) (evals (left_out l ts)) d) (take_all at bs all) out
 
 -- the items are those of the list
-pub same_items : (b : Forest) (t : Forest) (xs ys : List (Option Tree)) → list_of b ≡ Some (row xs) → Some (row ys) ≡ list_of b → ys ≡ xs
-same_items b t xs ys is be = let same : row ys ≡ row xs = cc (be ∙ is) in row_same ys xs same
+pub same_items : (b : Forest) (xs ys : List (Option Tree)) → list_of b ≡ Some (row xs) → Some (row ys) ≡ list_of b → ys ≡ xs
+same_items b xs ys is be = let same : row ys ≡ row xs = cc (be ∙ is) in row_same ys xs same
+
+pub out_of_list : {c d : Seen} (b : Forest) (bs : List Bool) (ys : List (Option Tree)) → Some (row ys) ≡ list_of b → Leaves c (λ r. ids r (left_out bs ys)) (evals (left_out bs ys)) d → (xs : List (Option Tree)) → list_of b ≡ Some (row xs) → Leaves c (λ r. ids r (left_out bs xs)) (evals (left_out bs xs)) d
+out_of_list {c = c} {d = d} b bs ys is l xs be = subst (λ z. Leaves c (λ r. ids r (left_out bs z)) (evals (left_out bs z)) d) (same_items b xs ys be is) l
+
+pub no_list_there : {P : Type 0} (b : Forest) (xs : List (Option Tree)) → (let none : Option Forest = None in none ≡ list_of b) → list_of b ≡ Some (row xs) → P
+no_list_there b xs none is = no_some (none ∙ is)
+  where
+    no_some : {Q : Type 0} → (let o : Option Forest = None in o ≡ Some (row xs)) → Q
+    no_some e = absurd cc
+
+-- ---- and the list as it is left
+
+pub list_is : (x : Tree) (xs : List (Option Tree)) → list_of (forest_of x) ≡ Some (row xs) → x.below ≡ row xs
+list_is x xs is = by x.kind is
+  where
+    by : (k : Kind) → list_of (node k x.note x.below nothing) ≡ Some (row xs) → x.below ≡ row xs
+    by Kind.Statements e = cc e
+    by k e = absurd cc
+
+-- of one list
+pub put_in_list : (x y : Tree) (bs : List Bool) (cs ys old : List (Option Tree)) → y.kind ≡ x.kind → y.note ≡ x.note → y.below ≡ row ys → row old ≡ x.below → row ys ≡ planned old bs cs → PutBelow bs cs (forest_of x) (forest_of y)
+put_in_list x y bs cs ys old kinds notes belows is put = λ items there.
+    ap₂ (λ k n. node k n y.below nothing) kinds notes ∙ ap (λ t. node x.kind x.note t nothing) (belows ∙ put ∙ ap (λ l. planned l bs cs) (row_same old items (is ∙ list_is x items there)))
+
+pub fits_long : (x : Tree) (bs : List Bool) (cs old : List (Option Tree)) → FitsBelow bs cs (forest_of x) → row old ≡ x.below → (length cs ≡ length old) × (length bs ≡ length old)
+fits_long x bs cs old w is =
+    let same = ap length (row_same old w.items (is ∙ list_is x w.items w.there)) in
+    (Prim.omega (arith, w.even, same), Prim.omega (arith, w.long, same))
+
+-- and of the children of a program
+not_one : (ts : List (Option Tree)) → (length ts ≡ 1 → ⊥) → (let none : Option Forest = None in none ≡ list_of (row ts))
+not_one [] other = refl
+not_one (None ∷ ts) other = refl
+not_one (Some x ∷ []) other = absurd (other (Prim.omega arith))
+not_one (Some x ∷ y ∷ ts) other = two_lists x.kind x.note x.below y ts
+
+pub no_only : (ts : List (Option Tree)) (bs : List Bool) (cs : List (Option Tree)) → (length ts ≡ 1 → ⊥) → PutBelow bs cs (row ts) (row ts)
+no_only ts bs cs other = λ items there. no_list_there (row ts) items (not_one ts other) there
+
+pub only_fits : (ts : List (Option Tree)) (x : Option Tree) (bs : List Bool) (cs : List (Option Tree)) → length ts ≡ 1 → x ≡ get_or ts 0 x → FitsBelow bs cs (row ts) → FitsBelow bs cs (row (x ∷ []))
+only_fits [] x bs cs one is w = absurd (Prim.omega (arith, one))
+only_fits (z ∷ []) x bs cs one is w = subst (λ y. FitsBelow bs cs (row (y ∷ []))) (sym is) w
+only_fits (z ∷ v ∷ ts) x bs cs one is w = absurd (Prim.omega (arith, one))
+
+pub only_put : (ts : List (Option Tree)) (x y : Option Tree) (bs : List Bool) (cs : List (Option Tree)) → length ts ≡ 1 → x ≡ get_or ts 0 x → PutBelow bs cs (row (x ∷ [])) (row (y ∷ [])) → PutBelow bs cs (row ts) (row (set ts 0 y))
+only_put [] x y bs cs one is put = absurd (Prim.omega (arith, one))
+only_put (z ∷ []) x y bs cs one is put = subst (λ v. PutBelow bs cs (row (v ∷ [])) (row (y ∷ []))) is put
+only_put (z ∷ v ∷ ts) x y bs cs one is put = absurd (Prim.omega (arith, one))
+
+pub child_put : (o p : Option Tree) (x y : Tree) (bs : List Bool) (cs : List (Option Tree)) → o ≡ Some x → p ≡ Some y → PutBelow bs cs (forest_of x) (forest_of y) → PutBelow bs cs (row (o ∷ [])) (row (p ∷ []))
+child_put o p x y bs cs is be put = subst (λ q. PutBelow bs cs (row (q ∷ [])) (row (p ∷ []))) (sym is) (subst (λ q. PutBelow bs cs (forest_of x) (row (q ∷ []))) (sym be) put)
+
+pub child_fits : (o : Option Tree) (x : Tree) (bs : List Bool) (cs : List (Option Tree)) → o ≡ Some x → FitsBelow bs cs (row (o ∷ [])) → FitsBelow bs cs (forest_of x)
+child_fits o x bs cs is w = subst (λ q. FitsBelow bs cs (row (q ∷ []))) is w
+
+pub no_child : (o : Option Tree) (bs : List Bool) (cs : List (Option Tree)) → o ≡ None → PutBelow bs cs (row (o ∷ [])) (row (o ∷ []))
+no_child o bs cs is = subst (λ q. PutBelow bs cs (row (q ∷ [])) (row (q ∷ []))) (sym is) (λ items there. no_list_there (absent nothing) items refl there)
+
+pub put_there : (bs : List Bool) (cs : List (Option Tree)) (t u v w : Forest) → t ≡ u → v ≡ w → PutBelow bs cs t v → PutBelow bs cs u w
+put_there bs cs t u v w is be put = subst (λ z. PutBelow bs cs u z) be (subst (λ z. PutBelow bs cs z v) is put)
+
+pub fits_there : (bs : List Bool) (cs : List (Option Tree)) (t u : Forest) → t ≡ u → FitsBelow bs cs t → FitsBelow bs cs u
+fits_there bs cs t u is w = subst (λ z. FitsBelow bs cs z) is w
 
 -- ---- what it does
 

@@ -1,5 +1,5 @@
 -- The list of a program, what is planned for it, and what it becomes.
-use Rattle.std.specs.Prelude.{◌≡◌, List, length, Bool, true, Option, Some, None}
+use Rattle.std.specs.Prelude.{◌≡◌, List, [], ◌∷◌, length, Bool, true, Option, Some, None, if◌then◌else◌}
 use Rattle.js_syntax.specs.declared.node_kind.NodeKind.TheVariants.{Statements as statements}
 use Rattle.js_syntax.specs.Node.{Forest, Tree, nothing, node, row}
 use Rattle.min_imports.specs.declared.passing.Passing.{Passing}
@@ -26,6 +26,10 @@ pub record PlannedList (f : Facts) (staying : List Bool) (changed : List (Option
 abbrev pub PlannedBelow : (f : Facts) (below : Forest) → Option Passing → Type 0
 PlannedBelow f below None = list_passed f below ≡ None
 PlannedBelow f below (Some p) = PlannedList f p.staying.items p.changed.items below
+
+-- an item that leaves, or doesn't
+abbrev pub out_one : (stays : Bool) → Option Tree → Forest
+out_one stays x = if stays then nothing else row (x ∷ [])
 
 -- a plan is for as many items as there are
 pub record FitsBelow (staying : List Bool) (changed : List (Option Tree)) (below : Forest) : Type 0 where

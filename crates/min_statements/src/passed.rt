@@ -7,7 +7,7 @@ ghost use Rattle.min_context.specs.Edited.{evals, Leaves};
 ghost use Rattle.min_imports.specs.Passing.{left_out};
 ghost use Rattle.min_traverse.specs.Lawful.{Does};
 ghost use Rattle.min_statements.specs.Acts as acts;
-ghost use Rattle.min_statements.specs.Passed.{list_of, PlannedBelow, FitsBelow, PutBelow};
+ghost use Rattle.min_statements.specs.Passed.{list_of, out_one, PlannedBelow, FitsBelow, PutBelow};
 
 use crate::facts::Facts;
 use crate::merged::{is_statements, may_come_together};
@@ -45,7 +45,7 @@ fn plan_list(
     facts: &Facts,
     children: &[Option<Node>],
 ) -> Result<Option<Passing>, AllocError>
-    ensures planned { IfOk result (λ p. PlannedBelow facts.now (row children.now) p) }
+    ensures { IfOk result (λ p. PlannedBelow facts.now (row children.now) p) }
 {
     let Some(items) = list_of(children) else {
         return Ok(None);
@@ -61,24 +61,33 @@ fn plan_list(
 // ---- the context is told
 
 fn drop_item(item: &Option<Node>, ctx: &mut MinifierTraverseCtx)
-    requires asked { ctx.old.requested ≡ true }
-    ensures left { Leaves ctx.old (λ r. ids r (row (item.now ∷ []))) (evals (row (item.now ∷ []))) ctx.new }
+    requires { ctx.old.requested ≡ true }
+    ensures { Leaves ctx.old (λ r. ids r (row (item.now ∷ []))) (evals (row (item.now ∷ []))) ctx.new }
 {
-    if let Some(node) = item {
-        ctx.drop_statement(node);
+    match item {
+        Some(node) => ctx.drop_statement(node),
+        None => {}
     }
+}
+
+fn drop_unless(stays: bool, item: &Option<Node>, ctx: &mut MinifierTraverseCtx)
+    requires { ctx.old.requested ≡ true }
+    ensures { Leaves ctx.old (λ r. ids r (out_one stays item.now)) (evals (out_one stays item.now)) ctx.new }
+{
+    if stays {
+        return;
+    }
+    drop_item(item, ctx);
 }
 
 fn drop_items(items: &[Option<Node>], staying: &[bool], ctx: &mut MinifierTraverseCtx)
     requires within { length staying.now ≤ length items.now }
     requires asked { ctx.old.requested ≡ true }
-    ensures left { Leaves ctx.old (λ r. ids r (left_out staying.now items.now)) (evals (left_out staying.now items.now)) ctx.new }
+    ensures { Leaves ctx.old (λ r. ids r (left_out staying.now items.now)) (evals (left_out staying.now items.now)) ctx.new }
 {
     let mut at = 0;
     while at < staying.len() {
-        if !staying[at] {
-            drop_item(&items[at], ctx);
-        }
+        drop_unless(staying[at], &items[at], ctx);
         at += 1;
     }
 }
@@ -86,7 +95,7 @@ fn drop_items(items: &[Option<Node>], staying: &[bool], ctx: &mut MinifierTraver
 fn drop_exports(children: &[Option<Node>], staying: &[bool], ctx: &mut MinifierTraverseCtx)
     requires within { (items : List (Option Tree)) → list_of (row children.now) ≡ Some (row items) → length staying.now ≤ length items }
     requires asked { ctx.old.requested ≡ true }
-    ensures left { (items : List (Option Tree)) → list_of (row children.now) ≡ Some (row items) → Leaves ctx.old (λ r. ids r (left_out staying.now items)) (evals (left_out staying.now items)) ctx.new }
+    ensures { (items : List (Option Tree)) → list_of (row children.now) ≡ Some (row items) → Leaves ctx.old (λ r. ids r (left_out staying.now items)) (evals (left_out staying.now items)) ctx.new }
 {
     match list_of(children) {
         Some(items) => drop_items(items, staying, ctx),
@@ -97,7 +106,7 @@ fn drop_exports(children: &[Option<Node>], staying: &[bool], ctx: &mut MinifierT
 // ---- and the list as it is left
 
 fn pass_in(alloc: Global, list: &mut Node, passing: Passing)
-    requires fits { FitsBelow passing.staying.items passing.changed.items (forest_of list.old) }
+    requires { FitsBelow passing.staying.items passing.changed.items (forest_of list.old) }
     ensures { PutBelow passing.staying.items passing.changed.items (forest_of list.old) (forest_of list.new) }
 {
     let mut items = list.replace_children(Vec::new(alloc));
@@ -106,7 +115,7 @@ fn pass_in(alloc: Global, list: &mut Node, passing: Passing)
 }
 
 fn pass_child(alloc: Global, child: &mut Option<Node>, passing: Passing)
-    requires fits { FitsBelow passing.staying.items passing.changed.items (row (child.old ∷ [])) }
+    requires { FitsBelow passing.staying.items passing.changed.items (row (child.old ∷ [])) }
     ensures { PutBelow passing.staying.items passing.changed.items (row (child.old ∷ [])) (row (child.new ∷ [])) }
 {
     match child {
@@ -116,7 +125,7 @@ fn pass_child(alloc: Global, child: &mut Option<Node>, passing: Passing)
 }
 
 fn pass_only(alloc: Global, children: &mut [Option<Node>], passing: Passing)
-    requires fits { FitsBelow passing.staying.items passing.changed.items (row children.old) }
+    requires { FitsBelow passing.staying.items passing.changed.items (row children.old) }
     ensures { PutBelow passing.staying.items passing.changed.items (row children.old) (row children.new) }
 {
     if children.len() == 1 {
@@ -125,7 +134,7 @@ fn pass_only(alloc: Global, children: &mut [Option<Node>], passing: Passing)
 }
 
 fn pass_below(alloc: Global, node: &mut Node, passing: Passing)
-    requires fits { FitsBelow passing.staying.items passing.changed.items node.old.below }
+    requires { FitsBelow passing.staying.items passing.changed.items node.old.below }
     ensures below { PutBelow passing.staying.items passing.changed.items node.old.below node.new.below }
     ensures kind { node.new.kind ≡ node.old.kind }
     ensures note { node.new.note ≡ node.old.note }
@@ -149,7 +158,8 @@ pub fn merge_import_export(
     if !may_come_together(names, node, ctx) {
         return Ok(false);
     }
-    let Some(passing) = plan_list(ctx.alloc(), &names.facts(ctx), node.children())? else {
+    let planned = plan_list(ctx.alloc(), &names.facts(ctx), node.children())?;
+    let Some(passing) = planned else {
         return Ok(false);
     };
     ctx.notice_change();
