@@ -5,10 +5,10 @@ use Rattle.min_imports.specs.Passing.{bound_below, found_in, or_found}
 use Rattle.min_imports.proofs.Naming.{text_found}
 use Rattle.min_imports.proofs.passed.bind_node.Goals as goal
 
-pub returns-in-Some : goal.returns-in-Some
-returns-in-Some c = λ x.
+pub returns-in_ok-bind-in-Some : goal.returns-in_ok-bind-in-Some
+returns-in_ok-bind-in-Some c = λ x.
     text_found (Some c.in-Some.text.now) (bound_below c.args.node.now.below) c.args.node.now.kind x (found_in c.bind.new.names x) (found_in c.args.names.now x) (ap (option_map (λ s. s.now)) (sym c.in-Some.is) ∙ c.bound_below.ensures ∙ ap bound_below c.children.ensures)
-    (c.in_ok-bind.ensures x ∙ ap (λ k. or_found (bytes_eq c.in-Some.text.now x) k (found_in c.args.names.now x)) c.kind.ensures)
+    (c.in_ok-bind-in-Some.ensures x ∙ ap (λ k. or_found (bytes_eq c.in-Some.text.now x) k (found_in c.args.names.now x)) c.kind.ensures)
 
 pub returns-in-None : goal.returns-in-None
 returns-in-None c = λ x.

@@ -1,9 +1,9 @@
-use Rattle.std.proofs.Common.{◌≡◌, ◌+◌, arith}
+use Rattle.std.proofs.Common.{length, refl, arith}
 use Rattle.min_imports.proofs.Naming.{none_bound, more_bound, all_bound}
 use Rattle.min_imports.proofs.passed.bound_names.Goals as goal
 
 pub loop-at-init : goal.loop-at-init
-loop-at-init c = record { inside = omega (arith, c.len-at.ensures); bound = none_bound c.new-bound.result c.args.names.now c.len-at.result c.new-bound.ensures.empty c.len-at.ensures }
+loop-at-init c = record { inside = omega arith; bound = none_bound c.new-bound.result c.args.names.now (length c.args.names.now) c.new-bound.ensures.empty refl }
 
 pub loop-at-preserved : goal.loop-at-preserved
 loop-at-preserved c = record {

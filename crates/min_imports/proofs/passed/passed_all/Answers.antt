@@ -1,4 +1,6 @@
-use Rattle.std.proofs.Common.{◌∙◌, sym, ap, arith, forest_of}
+use Rattle.std.proofs.Common.{◌∙◌, Option, sym, ap, subst, arith}
+use Rattle.std.specs.Option.{option_map}
+use Rattle.js_syntax.specs.Node.{Tree, forest_of, row}
 use Rattle.min_imports.proofs.Naming.{none_so_far, one_more, one_fails, all_so}
 use Rattle.min_imports.proofs.passed.passed_all.Goals as goal
 
