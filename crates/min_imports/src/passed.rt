@@ -261,7 +261,8 @@ fn passed_all<'a>(
 {
     let mut passed = Vec::new(alloc);
     for item in specifiers {
-        let Some(name) = passed_item(alloc, bound, item)? else {
+        let found = passed_item(alloc, bound, item)?;
+        let Some(name) = found else {
             return Ok(None);
         };
         passed.push(Some(name))?;
@@ -381,10 +382,12 @@ fn names_passed<'a>(
 ) -> Result<Option<Node>, AllocError>
     ensures { IfOk result (λ o. o ≡ rules.export_of source.now import.now.note list.now.note None (rules.passed list.now.below (row specifiers.now))) }
 {
-    match passed(alloc, list.children(), specifiers)? {
-        Some(passed) => Ok(Some(export_named(alloc, source, import, list_of(list, passed))?)),
-        None => Ok(None),
-    }
+    let found = passed(alloc, list.children(), specifiers)?;
+    let Some(names) = found else {
+        return Ok(None);
+    };
+    let node = export_named(alloc, source, import, list_of(list, names))?;
+    Ok(Some(node))
 }
 
 fn export_of<'a>(
@@ -396,9 +399,16 @@ fn export_of<'a>(
 ) -> Result<Option<Node>, AllocError>
     ensures { IfOk result (λ o. o ≡ rules.export_of source.now import.now.note list.now.note (rules.namespace_passed list.now.below (row specifiers.now)) (rules.passed list.now.below (row specifiers.now))) }
 {
-    match namespace_passed(list.children(), specifiers) {
-        Some(exported) => Ok(Some(export_all(alloc, source, import, exported)?)),
-        None => names_passed(alloc, source, import, list, specifiers),
+    let whole = namespace_passed(list.children(), specifiers);
+    match whole {
+        Some(exported) => {
+            let node = export_all(alloc, source, import, exported)?;
+            Ok(Some(node))
+        }
+        None => {
+            let node = names_passed(alloc, source, import, list, specifiers)?;
+            Ok(node)
+        }
     }
 }
 

@@ -60,7 +60,7 @@ fn exports_names(node: &Node) -> Option<&[Option<Node>]>
 }
 
 fn is_there(specifiers: Option<&[Option<Node>]>) -> bool
-    ensures { result ≡ is_some (option_map (λ s. row s.now) specifiers) }
+    ensures { result ≡ is_some (option_map (λ s. row s.now) specifiers.entry) }
 {
     match specifiers {
         Some(_) => true,
