@@ -203,7 +203,10 @@ fn first_text(specifiers: &[Option<Node>]) -> Option<&str>
 }
 
 // Where the imports stand that bind the first name that an export lists.
-fn binders_of<'a>(binders: &BTreeMap<&'a str, Within>, specifiers: &'a [Option<Node>]) -> Option<Within>
+fn binders_of<'a>(
+    binders: &BTreeMap<&'a str, Within>,
+    specifiers: &'a [Option<Node>],
+) -> Option<Within>
     ensures { result ≡ stretch_for binders.now (first_text (row specifiers.now)) }
 {
     match first_text(specifiers) {
