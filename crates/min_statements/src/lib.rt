@@ -6,7 +6,8 @@
 //! nothing (`empty_statement`), behind a declaration of one name that nothing uses a statement of its value (`state_value`), behind an `if` on a test that is known the branch that runs, or an empty statement, or the `if` without
 //! what declares no name in the other branch, and without the values there, behind one whose branches are empty a statement of its test, and
 //! behind one with an empty alternate the `if` without it (`try_fold_if`), behind an import the import without the names that nobody uses (`remove_unused_import_specifiers`), behind a
-//! module that module with its imports together (`merge_module_imports`), behind an expression that a known test decides the part that counts, alone, behind a zero, or behind the test where that acts, behind an operation
+//! module that module with its imports together (`merge_module_imports`), or where none come together with an export from another module in
+//! the place of each import that only feeds an export (`merge_import_export`), behind an expression that a known test decides the part that counts, alone, behind a zero, or behind the test where that acts, behind an operation
 //! of which nobody takes the value the operands that act, behind such an array, object or sequence its parts that act, and behind an
 //! operation that doesn't act its value (min_expressions). Each call does exactly what its rule says, marks what left before it is let go,
 //! and touches nothing where nothing goes. `walk_statements` is one pass over a program: what is left comes by edits that a dead code

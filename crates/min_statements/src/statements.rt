@@ -22,8 +22,9 @@ use scope_table::Scoping;
 use std::alloc::{AllocError, Global};
 use std::marker::Model;
 
-/// Takes dead code out of lists of statements and unused names out of imports, lets imports of one module come together, empties silent
+/// Takes dead code out of lists of statements and unused names out of imports, lets imports of one module come together and those that only
 /// statements elsewhere and branches and bodies that do nothing, makes statements of the values of names that nothing uses, and lets
+/// feed exports become exports, empties silent
 /// expressions and `if`s that known tests decide come to the part that counts, alone or behind a zero,
 /// operations, arrays, objects and sequences of which nobody takes the value to what of them acts, and operations that don't act to their
 /// values.
