@@ -16,7 +16,7 @@ use Rattle.min_imports.specs.declared.passing.Passing.{Passing}
 use Rattle.min_imports.specs.declared.passing.Within.{Within}
 use Rattle.min_imports.specs.Merging.{is_import, or_changed, overlaid, planned, is_missing}
 use Rattle.min_imports.specs.Passing.{passes_at, imports, NoImports, Beside, Passes, item_binds, names_bind, names_in, stretch, stretch_for, widened, widened_if, Holds, EndsBy, Covers, first_text, left_out, ItemPasses, Plan, Planned}
-use Rattle.min_imports.proofs.Planning.{over_long, over_at, over_set, over_push, planned_push}
+use Rattle.min_imports.proofs.Overlaid.{over_long, over_at, over_set, over_push, planned_push}
 use Rattle.min_imports.proofs.Binding.{Starts, starts, became, no_names}
 use denote.Ref.{Bor}
 

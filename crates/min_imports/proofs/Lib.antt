@@ -7,6 +7,7 @@ pub mod Listing
 pub mod Naming
 pub mod Binding
 pub mod Going
+pub mod Overlaid
 pub mod Planning
 pub mod Finding
 pub mod Laying

@@ -21,7 +21,7 @@ use Rattle.min_imports.specs.declared.passing.Passing.{Passing}
 use Rattle.min_imports.specs.Merging.{planned}
 use Rattle.min_imports.specs.Passing.{uses_of, left_out, Plan, Planned}
 use Rattle.min_imports.proofs.Going.{left_more}
-use Rattle.min_imports.proofs.Planning.{row_same}
+use Rattle.min_imports.proofs.Overlaid.{row_same}
 use Rattle.min_traverse.specs.Lawful.{Stays, Does, or_same}
 use Rattle.min_traverse.specs.Moves.{Holds, NodeMoves, before}
 use Rattle.min_traverse.proofs.Joining.{does_some, does_none}

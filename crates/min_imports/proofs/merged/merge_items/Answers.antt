@@ -2,7 +2,7 @@ use Rattle.std.proofs.Common.{◌∙◌, drop, length, ap, sym, arith}
 use Rattle.std.specs.List.{items_where_true}
 use Rattle.js_syntax.specs.Node.{row}
 use Rattle.min_imports.specs.Merging.{overlaid}
-use Rattle.min_imports.proofs.Planning.{row_same, written}
+use Rattle.min_imports.proofs.Overlaid.{row_same, written}
 use Rattle.min_imports.proofs.Staying.{same_tree}
 use Rattle.min_imports.proofs.merged.merge_items.Goals as goal
 

@@ -2,7 +2,7 @@ use Rattle.std.proofs.Common.{◌∙◌, sym, arith, refl}
 use Rattle.js_syntax.specs.Node.{row}
 use Rattle.min_imports.specs.Merging.{overlaid}
 use Rattle.min_imports.proofs.Finding.{none_yet, ends_here, goes_on, at_end, there_within}
-use Rattle.min_imports.proofs.Planning.{over_there}
+use Rattle.min_imports.proofs.Overlaid.{over_there}
 use Rattle.min_imports.proofs.merged.receiver.Goals as goal
 
 pub loop-at-init : goal.loop-at-init

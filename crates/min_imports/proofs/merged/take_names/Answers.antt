@@ -1,7 +1,7 @@
 use Rattle.std.proofs.Common.{◌∙◌, drop, length, ap, arith}
 use Rattle.js_syntax.specs.Node.{row}
 use Rattle.rules.specs.Imports.Merged.{with_names}
-use Rattle.min_imports.proofs.Planning.{written}
+use Rattle.min_imports.proofs.Overlaid.{written}
 use Rattle.min_imports.proofs.Staying.{same_tree}
 use Rattle.min_imports.proofs.merged.take_names.Goals as goal
 
