@@ -186,11 +186,11 @@ module _ (first : BTreeMap (Bor (List ℕ)) Within) (names : List (Option Tree))
 bound_binds : (names : Forest) (x : List ℕ) (o : ModuleName) → bound_in names x ≡ Some o → names_bind names x ≡ true
 bound_binds nothing x o is = absurd cc
 bound_binds (absent r) x o is = bound_binds r x o is
-bound_binds (node k n b r) x o is = by (is_text (bound_below b) x) (sym (bound_first k n b r x) ∙ is)
+bound_binds (node k n b r) x o is = by (is_text (bound_below b) x) (sym (bound_first k n b r x) ∙ is) (λ h. bound_binds r x o h)
   where
-    by : (c : Bool) → or_found c k (bound_in r x) ≡ Some o → c || names_bind r x ≡ true
-    by true h = refl
-    by false h = bound_binds r x o h
+    by : (c : Bool) → or_found c k (bound_in r x) ≡ Some o → (bound_in r x ≡ Some o → names_bind r x ≡ true) → c || names_bind r x ≡ true
+    by true h rest = refl
+    by false h rest = rest h
 
 pub record First (names listed : Forest) : Type 0 where
   pub text : List ℕ
@@ -208,7 +208,7 @@ names_there_none nothing h = true≢false (sym h)
 names_there_none (absent r) h = true≢false (sym (and_parts false (lists_each nothing r) (and_parts (has_node r) (false && lists_each nothing r) h).1).0)
 names_there_none (node k n (node (Kind.BindingName z) m c d) r) h =
     let o = and_parts (are_names (node k n (node (binding_name z) m c d) r)) (lists_each nothing (node k n (node (binding_name z) m c d) r)) h in true≢false (sym o.1)
-names_there_none (node k n b r) h = no_name k b r (and_parts (are_names (node k n b r)) (lists_each nothing (node k n b r)) h).0
+names_there_none (node k n b r) h = no_name k b r (and_parts (are_names (node k n b r)) (lists_each nothing (node k n b r)) h).0 refl
   where
     no_name : (l : Kind) (c s : Forest) → binds_import l && (is_one_name c && are_names s) ≡ true → is_one_name c ≡ false → ⊥
     no_name l c s e none = true≢false (sym (sym none ∙ (and_parts (is_one_name c) (are_names s) (and_parts (binds_import l) (is_one_name c && are_names s) e).1).0))

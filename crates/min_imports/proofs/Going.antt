@@ -84,9 +84,9 @@ module _ (f : Facts) (listed : Forest) (items : List (Option Tree)) (bs : List B
 
   -- ---- an item is tried
 
-  module _ (at : ℕ) (x : Option Tree) (b : Bool) (c w : Option Tree) (inside : at < length bs) (is_item : x ≡ get_or items at x) (is_bit : b ≡ get_or bs at b) (is_slot : c ≡ get_or cs at c) (put : w ≡ or_changed c (passes_at f listed b (or_changed x c))) where
+  module _ (at : ℕ) (x : Option Tree) (b : Bool) (c w : Option Tree) (inside : at < length bs) (is_item : x ≡ get_or items at x) (is_bit : get_or bs at false ≡ b) (is_slot : c ≡ get_or cs at c) (put : w ≡ or_changed c (passes_at f listed b (or_changed x c))) where
     here : passes_at f listed (get_or bs at false) (get_or (overlaid items cs) at None) ≡ passes_at f listed b (or_changed x c)
-    here = ap₂ (passes_at f listed) (sym (get_or_read_under bs at (length bs) b false is_bit inside refl)) (over_at items cs at x c None (Prim.omega (arith, inside, even)) (Prim.omega (arith, even, within)) is_item is_slot)
+    here = ap₂ (passes_at f listed) is_bit (over_at items cs at x c None (Prim.omega (arith, inside, even)) (Prim.omega (arith, even, within)) is_item is_slot)
 
     none_of : (o : Option Tree) → is_some o ≡ false → o ≡ None
     none_of None e = refl

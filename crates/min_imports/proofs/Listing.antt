@@ -144,14 +144,14 @@ module _ {X : Type 0} (test : ℕ → Bool) (number : X → ℕ) where
   abbrev pub each : List X → Bool
   each xs = list_all test (map number xs)
 
-  next : (xs : List X) (i : ℕ) (x : X) → i < length xs → x ≡ get_or xs i x → each (drop i xs) ≡ test (number x) && each (drop (i + 1) xs)
-  next xs i x h is = ap each (drop_more xs i x h) ∙ ap (λ y. test (number y) && each (drop (i + 1) xs)) (sym is)
+  next : (xs : List X) (i : ℕ) (d : X) → i < length xs → each (drop i xs) ≡ test (number (get_or xs i d)) && each (drop (i + 1) xs)
+  next xs i d h = ap each (drop_more xs i d h)
 
-  pub one_fails : (xs : List X) (i : ℕ) (x : X) → i < length xs → x ≡ get_or xs i x → test (number x) ≡ false → each xs ≡ each (drop i xs) → false ≡ each xs
-  one_fails xs i x h is other so = sym (so ∙ next xs i x h is ∙ ap (λ b. b && each (drop (i + 1) xs)) other)
+  pub one_fails : (xs : List X) (i : ℕ) (d : X) → i < length xs → test (number (get_or xs i d)) ≡ false → each xs ≡ each (drop i xs) → false ≡ each xs
+  one_fails xs i d h other so = sym (so ∙ next xs i d h ∙ ap (λ b. b && each (drop (i + 1) xs)) other)
 
-  pub one_more : (xs : List X) (i : ℕ) (x : X) → i < length xs → x ≡ get_or xs i x → test (number x) ≡ true → each xs ≡ each (drop i xs) → each xs ≡ each (drop (i + 1) xs)
-  one_more xs i x h is does so = so ∙ next xs i x h is ∙ ap (λ b. b && each (drop (i + 1) xs)) does
+  pub one_more : (xs : List X) (i : ℕ) (d : X) → i < length xs → test (number (get_or xs i d)) ≡ true → each xs ≡ each (drop i xs) → each xs ≡ each (drop (i + 1) xs)
+  one_more xs i d h does so = so ∙ next xs i d h ∙ ap (λ b. b && each (drop (i + 1) xs)) does
 
   pub all_so : (xs : List X) (i : ℕ) → length xs ≤ i → each xs ≡ each (drop i xs) → true ≡ each xs
   all_so xs i all so = sym (so ∙ ap each (drop_all i xs all))

@@ -201,9 +201,9 @@ fn references_to(scoping: &Scoping, symbol: u32) -> &[ReferenceId]
     }
 }
 
-fn is_listed(listed: &Listed, reference: &ReferenceId) -> bool
+fn is_listed(listed: &Listed, reference: ReferenceId) -> bool
     requires told { Told listed.now.texts listed.now.references (row listed.now.specifiers.now) }
-    ensures { result ≡ has_reference (row listed.now.specifiers.now) reference.now.0 }
+    ensures { result ≡ has_reference (row listed.now.specifiers.now) reference.0 }
 {
     listed.references.contains(&reference.0)
 }
@@ -212,10 +212,12 @@ fn are_listed(listed: &Listed, references: &[ReferenceId]) -> bool
     requires told { Told listed.now.texts listed.now.references (row listed.now.specifiers.now) }
     ensures { result ≡ list_all (has_reference (row listed.now.specifiers.now)) (map (λ r. r.0) references.now) }
 {
-    for reference in references {
-        if !is_listed(listed, reference) {
+    let mut at = 0;
+    while at < references.len() {
+        if !is_listed(listed, references[at]) {
             return false;
         }
+        at += 1;
     }
     true
 }

@@ -376,17 +376,8 @@ fn item_goes<'a>(
 /// Which items of a list stay, and what those become that change.
 #[derive(Drop)]
 pub struct Passing {
-    staying: Vec<bool>,
-    changed: Vec<Option<Node>>,
-}
-
-impl Passing {
-    /// Of each item whether it stays.
-    pub fn staying(&self) -> &[bool]
-        ensures { result.now ≡ self.now.staying.items }
-    {
-        self.staying.as_slice()
-    }
+    pub staying: Vec<bool>,
+    pub changed: Vec<Option<Node>>,
 }
 
 fn ends_at(ended: bool, item: &Option<Node>) -> bool

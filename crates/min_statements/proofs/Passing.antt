@@ -210,9 +210,9 @@ evals_joined (node k n b t) u = Prim.omega (arith, evals_joined t u)
 abbrev pub OutBefore : List Bool → List (Option Tree) → ℕ → Seen → Seen → Type 0
 OutBefore bs ts at c d = Leaves c (λ r. ids r (left_out (take at bs) ts)) (evals (left_out (take at bs) ts)) d
 
-out_more : (bs : List Bool) (ts : List (Option Tree)) (at : ℕ) (b : Bool) (x : Option Tree) → at < length bs → length bs ≤ length ts → b ≡ get_or bs at b → x ≡ get_or ts at x → left_out (take (at + 1) bs) ts ≡ joined (left_out (take at bs) ts) (if b then nothing else row (x ∷ []))
+out_more : (bs : List Bool) (ts : List (Option Tree)) (at : ℕ) (b : Bool) (x : Option Tree) → at < length bs → length bs ≤ length ts → get_or bs at false ≡ b → x ≡ get_or ts at x → left_out (take (at + 1) bs) ts ≡ joined (left_out (take at bs) ts) (if b then nothing else row (x ∷ []))
 out_more bs ts at b x h within bit is =
-    ap (λ l. left_out l ts) (take_more bs at b h ∙ ap (λ c. take at bs ++ c ∷ []) (sym bit)) ∙ left_more (take at bs) ts at b x (taken bs at h) (Prim.omega (arith, h, within)) is
+    ap (λ l. left_out l ts) (take_more bs at false h ∙ ap (λ c. take at bs ++ c ∷ []) bit) ∙ left_more (take at bs) ts at b x (taken bs at h) (Prim.omega (arith, h, within)) is
   where
     taken : (l : List Bool) (i : ℕ) → i < length l → length (take i l) ≡ i
     taken [] i g = absurd (Prim.omega (arith, g))
@@ -222,7 +222,7 @@ out_more bs ts at b x h within bit is =
 pub none_out : (c : Seen) (bs : List Bool) (ts : List (Option Tree)) → OutBefore bs ts 0 c c
 none_out c bs ts = leaves_none c
 
-pub out_next : {c d e : Seen} (bs : List Bool) (ts : List (Option Tree)) (at : ℕ) (b : Bool) (x : Option Tree) → at < length bs → length bs ≤ length ts → b ≡ get_or bs at b → x ≡ get_or ts at x → OutBefore bs ts at c d
+pub out_next : {c d e : Seen} (bs : List Bool) (ts : List (Option Tree)) (at : ℕ) (b : Bool) (x : Option Tree) → at < length bs → length bs ≤ length ts → get_or bs at false ≡ b → x ≡ get_or ts at x → OutBefore bs ts at c d
     → Leaves d (λ r. ids r (out_one b x)) (evals (out_one b x)) e → OutBefore bs ts (at + 1) c e
 out_next {c = c} {e = e} bs ts at b x h within bit is out one =
     let all = left_out (take at bs) ts in

@@ -163,7 +163,7 @@ pub fn merge_import_export(
         return Ok(false);
     };
     ctx.notice_change();
-    drop_exports(node.children(), passing.staying(), ctx);
+    drop_exports(node.children(), passing.staying.as_slice(), ctx);
     pass_below(ctx.alloc(), node, passing);
     Ok(true)
 }

@@ -29,8 +29,8 @@ loop-at-preserved c =
     let inside : at < length bs = omega (arith, c.loop-at-test.true, c.requires.inside) in
     let is_slot : slot ≡ get_or cs at slot = c.index_mut-slot.ensures.value ∙ ap (λ l. get_or l at slot) same in
     record {
-      before = before_next f listed bs (overlaid items cs) at c.loop-at.invariant.before (goes_none f listed items bs cs c.requires.even c.requires.within at c.index-items-at.result c.index-staying-at.result slot c.pass_at.new.changed inside c.index-items-at.is c.index-staying-at.is is_slot c.in_ok-goes.ensures.changed c.in_ok-goes.goes c.in_ok-goes.ensures.goes c.if-goes.false);
-      same = ap (λ l. set l at c.pass_at.new.changed) same ∙ slot_same f listed items bs cs c.requires.even c.requires.within at c.index-items-at.result c.index-staying-at.result slot c.pass_at.new.changed inside c.index-items-at.is c.index-staying-at.is is_slot c.in_ok-goes.ensures.changed c.in_ok-goes.goes c.in_ok-goes.ensures.goes c.if-goes.false;
+      before = before_next f listed bs (overlaid items cs) at c.loop-at.invariant.before (goes_none f listed items bs cs c.requires.even c.requires.within at c.index-items-at.result _ slot c.pass_at.new.changed inside c.index-items-at.is refl is_slot c.in_ok-goes.ensures.changed c.in_ok-goes.goes c.in_ok-goes.ensures.goes c.if-goes.false);
+      same = ap (λ l. set l at c.pass_at.new.changed) same ∙ slot_same f listed items bs cs c.requires.even c.requires.within at c.index-items-at.result _ slot c.pass_at.new.changed inside c.index-items-at.is refl is_slot c.in_ok-goes.ensures.changed c.in_ok-goes.goes c.in_ok-goes.ensures.goes c.if-goes.false;
       even = length-set c.loop-at.changed.items at c.pass_at.new.changed ∙ c.loop-at.invariant.even;
     }
 
@@ -47,7 +47,7 @@ returns-then-goes-clause-passes c =
     let inside : at < length bs = omega (arith, c.loop-at-test.true, c.requires.inside) in
     let is_slot : slot ≡ get_or cs at slot = c.index_mut-slot.ensures.value ∙ ap (λ l. get_or l at slot) same in
     subst (λ l. Passes (passed_among f listed (planned items bs cs)) (planned items bs cs) true (planned items bs (set l at c.pass_at.new.changed))) (sym same)
-    (passes_there f listed items bs cs c.requires.even c.requires.within at c.index-items-at.result c.index-staying-at.result slot c.pass_at.new.changed inside c.index-items-at.is c.index-staying-at.is is_slot c.in_ok-goes.ensures.changed c.in_ok-goes.goes c.in_ok-goes.ensures.goes c.if-goes.true c.loop-at.invariant.before c.requires.beside.there)
+    (passes_there f listed items bs cs c.requires.even c.requires.within at c.index-items-at.result _ slot c.pass_at.new.changed inside c.index-items-at.is refl is_slot c.in_ok-goes.ensures.changed c.in_ok-goes.goes c.in_ok-goes.ensures.goes c.if-goes.true c.loop-at.invariant.before c.requires.beside.there)
 
 pub returns-then-goes-clause-binds : goal.returns-then-goes-clause-binds
 returns-then-goes-clause-binds c =
@@ -61,7 +61,7 @@ returns-then-goes-clause-binds c =
     let slot = c.index_mut-slot.result.now in
     let inside : at < length bs = omega (arith, c.loop-at-test.true, c.requires.inside) in
     let is_slot : slot ≡ get_or cs at slot = c.index_mut-slot.ensures.value ∙ ap (λ l. get_or l at slot) same in
-    λ j q h. binds_there f listed items bs cs c.requires.even c.requires.within at c.index-items-at.result c.index-staying-at.result slot c.pass_at.new.changed inside c.index-items-at.is c.index-staying-at.is is_slot c.in_ok-goes.ensures.changed c.in_ok-goes.goes c.in_ok-goes.ensures.goes c.if-goes.true j q (subst (λ l. item_binds (get_or (overlaid items (set l at c.pass_at.new.changed)) j None) q ≡ true) same h)
+    λ j q h. binds_there f listed items bs cs c.requires.even c.requires.within at c.index-items-at.result _ slot c.pass_at.new.changed inside c.index-items-at.is refl is_slot c.in_ok-goes.ensures.changed c.in_ok-goes.goes c.in_ok-goes.ensures.goes c.if-goes.true j q (subst (λ l. item_binds (get_or (overlaid items (set l at c.pass_at.new.changed)) j None) q ≡ true) same h)
 
 pub returns-then-goes-clause-even : goal.returns-then-goes-clause-even
 returns-then-goes-clause-even c = length-set c.loop-at.changed.items c.loop-at.at c.pass_at.new.changed ∙ ap length c.loop-at.invariant.same
@@ -78,7 +78,7 @@ returns-then-goes-clause-exported c =
     let slot = c.index_mut-slot.result.now in
     let inside : at < length bs = omega (arith, c.loop-at-test.true, c.requires.inside) in
     let is_slot : slot ≡ get_or cs at slot = c.index_mut-slot.ensures.value ∙ ap (λ l. get_or l at slot) same in
-    subst (λ l. NoImports (set l at c.pass_at.new.changed)) (sym same) (imports_there f listed items bs cs c.requires.even c.requires.within at c.index-items-at.result c.index-staying-at.result slot c.pass_at.new.changed inside c.index-items-at.is c.index-staying-at.is is_slot c.in_ok-goes.ensures.changed c.in_ok-goes.goes c.in_ok-goes.ensures.goes c.if-goes.true c.requires.exported)
+    subst (λ l. NoImports (set l at c.pass_at.new.changed)) (sym same) (imports_there f listed items bs cs c.requires.even c.requires.within at c.index-items-at.result _ slot c.pass_at.new.changed inside c.index-items-at.is refl is_slot c.in_ok-goes.ensures.changed c.in_ok-goes.goes c.in_ok-goes.ensures.goes c.if-goes.true c.requires.exported)
 
 pub returns-clause-passes : goal.returns-clause-passes
 returns-clause-passes c =

@@ -16,7 +16,7 @@ returns-in_default-clause-does c =
 
 pub drop_exports-requires : goal.drop_exports-requires
 drop_exports-requires c = record {
-  within = inside c.args.names.now c.args.ctx.now c.args.node.now (sym c.if-not-may_come_together.false ∙ c.may_come_together.ensures) c.facts.result (row c.children.result.now) c.in-Some.passing c.facts.ensures c.children.ensures (subst (λ (o : Option Passing). PlannedBelow c.facts.result (row c.children.result.now) o) c.in-Some.is c.in_ok-planned.ensures) (row c.children-2.result.now) c.staying.result.now c.children-2.ensures c.staying.ensures;
+  within = inside c.args.names.now c.args.ctx.now c.args.node.now (sym c.if-not-may_come_together.false ∙ c.may_come_together.ensures) c.facts.result (row c.children.result.now) c.in-Some.passing c.facts.ensures c.children.ensures (subst (λ (o : Option Passing). PlannedBelow c.facts.result (row c.children.result.now) o) c.in-Some.is c.in_ok-planned.ensures) (row c.children-2.result.now) c.as_slice.result.now c.children-2.ensures c.as_slice.ensures.value;
   asked = ap {A = Seen} (λ z. z.requested) c.notice_change.ensures.requested;
 }
 
@@ -26,4 +26,4 @@ pass_below-requires c = fits c.args.names.now c.args.ctx.now c.args.node.now (sy
 pub returns-clause-does : goal.returns-clause-does
 returns-clause-does c =
     passes_so c.args.names.now c.args.ctx.now c.args.node.now (sym c.if-not-may_come_together.false ∙ c.may_come_together.ensures) c.facts.result (row c.children.result.now) c.in-Some.passing c.facts.ensures c.children.ensures (subst (λ (o : Option Passing). PlannedBelow c.facts.result (row c.children.result.now) o) c.in-Some.is c.in_ok-planned.ensures)
-    c.notice_change.new.self c.drop_exports.new.ctx c.pass_below.new.node (row c.children-2.result.now) c.staying.result.now c.notice_change.ensures.requested c.children-2.ensures c.staying.ensures c.drop_exports.ensures c.pass_below.ensures.kind c.pass_below.ensures.note c.pass_below.ensures.below
+    c.notice_change.new.self c.drop_exports.new.ctx c.pass_below.new.node (row c.children-2.result.now) c.as_slice.result.now c.notice_change.ensures.requested c.children-2.ensures c.as_slice.ensures.value c.drop_exports.ensures c.pass_below.ensures.kind c.pass_below.ensures.note c.pass_below.ensures.below
