@@ -248,7 +248,7 @@ or_true : (a b : Bool) → (a || true) || b ≡ a || true
 or_true true b = refl
 or_true false b = refl
 
-left_more : (bs : List Bool) (items : List (Option Tree)) (i : ℕ) (b : Bool) (x : Option Tree) → length bs ≡ i → i < length items → x ≡ get_or items i x → left_out (bs ++ b ∷ []) items ≡ joined (left_out bs items) (if b then nothing else row (x ∷ []))
+pub left_more : (bs : List Bool) (items : List (Option Tree)) (i : ℕ) (b : Bool) (x : Option Tree) → length bs ≡ i → i < length items → x ≡ get_or items i x → left_out (bs ++ b ∷ []) items ≡ joined (left_out bs items) (if b then nothing else row (x ∷ []))
 left_more bs [] i b x n h is = absurd (Prim.omega (arith, h))
 left_more [] (y ∷ items) zero true x n h is = refl
 left_more [] (y ∷ items) zero false x n h is = joined_nothing (row (y ∷ [])) ∙ ap (λ z. row (z ∷ [])) (sym is)

@@ -279,15 +279,15 @@ not_one (Some x ∷ y ∷ ts) other = two_lists x.kind x.note x.below y ts
 pub no_only : (ts : List (Option Tree)) (bs : List Bool) (cs : List (Option Tree)) → (length ts ≡ 1 → ⊥) → PutBelow bs cs (row ts) (row ts)
 no_only ts bs cs other = λ items there. no_list_there (row ts) items (not_one ts other) there
 
-pub only_fits : (ts : List (Option Tree)) (x : Option Tree) (bs : List Bool) (cs : List (Option Tree)) → length ts ≡ 1 → x ≡ get_or ts 0 x → FitsBelow bs cs (row ts) → FitsBelow bs cs (row (x ∷ []))
-only_fits [] x bs cs one is w = absurd (Prim.omega (arith, one))
-only_fits (z ∷ []) x bs cs one is w = subst (λ y. FitsBelow bs cs (row (y ∷ []))) (sym is) w
-only_fits (z ∷ v ∷ ts) x bs cs one is w = absurd (Prim.omega (arith, one))
+pub only_fits : (ts : List (Option Tree)) (x : Option Tree) (bs : List Bool) (cs : List (Option Tree)) → length ts ≡ 1 → FitsBelow bs cs (row ts) → FitsBelow bs cs (row (get_or ts 0 x ∷ []))
+only_fits [] x bs cs one w = absurd (Prim.omega (arith, one))
+only_fits (z ∷ []) x bs cs one w = w
+only_fits (z ∷ v ∷ ts) x bs cs one w = absurd (Prim.omega (arith, one))
 
-pub only_put : (ts : List (Option Tree)) (x y : Option Tree) (bs : List Bool) (cs : List (Option Tree)) → length ts ≡ 1 → x ≡ get_or ts 0 x → PutBelow bs cs (row (x ∷ [])) (row (y ∷ [])) → PutBelow bs cs (row ts) (row (set ts 0 y))
-only_put [] x y bs cs one is put = absurd (Prim.omega (arith, one))
-only_put (z ∷ []) x y bs cs one is put = subst (λ v. PutBelow bs cs (row (v ∷ [])) (row (y ∷ []))) is put
-only_put (z ∷ v ∷ ts) x y bs cs one is put = absurd (Prim.omega (arith, one))
+pub only_put : (ts : List (Option Tree)) (x y : Option Tree) (bs : List Bool) (cs : List (Option Tree)) → length ts ≡ 1 → PutBelow bs cs (row (get_or ts 0 x ∷ [])) (row (y ∷ [])) → PutBelow bs cs (row ts) (row (set ts 0 y))
+only_put [] x y bs cs one put = absurd (Prim.omega (arith, one))
+only_put (z ∷ []) x y bs cs one put = put
+only_put (z ∷ v ∷ ts) x y bs cs one put = absurd (Prim.omega (arith, one))
 
 pub child_put : (o p : Option Tree) (x y : Tree) (bs : List Bool) (cs : List (Option Tree)) → o ≡ Some x → p ≡ Some y → PutBelow bs cs (forest_of x) (forest_of y) → PutBelow bs cs (row (o ∷ [])) (row (p ∷ []))
 child_put o p x y bs cs is be put = subst (λ q. PutBelow bs cs (row (q ∷ [])) (row (p ∷ []))) (sym is) (subst (λ q. PutBelow bs cs (forest_of x) (row (q ∷ []))) (sym be) put)
@@ -353,9 +353,9 @@ module _ (names : Names) (c : Seen) (x : Tree) (does : true ≡ (is_module x.kin
     fits = let g = plan_there in record { items = g.plan.items; there = g.there ∙ ap Some (sym g.plan.are); even = g.plan.even; long = g.plan.long }
 
     pub inside : (u : Forest) (bits : List Bool) → u ≡ x.below → bits ≡ p.staying.items → (items : List (Option Tree)) → list_of u ≡ Some (row items) → length bits ≤ length items
-    inside u bits row are items there =
+    inside u bits at_row are items there =
         let g = fits in
-        let same : row g.items ≡ row items = cc (sym g.there ∙ ap list_of (sym row) ∙ there) in
+        let same : row g.items ≡ row items = cc (sym g.there ∙ ap list_of (sym at_row) ∙ there) in
         Prim.omega (arith, g.long, ap length are, ap length (row_same g.items items same))
 
     same_tree : (y : Tree) (u : Forest) → y.kind ≡ x.kind → y.note ≡ x.note → y.below ≡ u → y ≡ record { kind = x.kind; note = x.note; below = u }
@@ -366,14 +366,14 @@ module _ (names : Names) (c : Seen) (x : Tree) (does : true ≡ (is_module x.kin
     pub passes_so : (k d : Seen) (y : Tree) (u : Forest) (bits : List Bool) → k ≡ record c { requested = true } → u ≡ x.below → bits ≡ p.staying.items
         → ((items : List (Option Tree)) → list_of u ≡ Some (row items) → Leaves k (λ r. ids r (left_out bits items)) (evals (left_out bits items)) d)
         → y.kind ≡ x.kind → y.note ≡ x.note → PutBelow p.staying.items p.changed.items x.below y.below → Does (pass names) c x true d y
-    passes_so k d y u bits noticed row are left kinds notes put =
+    passes_so k d y u bits noticed at_row are left kinds notes put =
         let g = plan_there in
         let fs = facts_of names c in
-        let w = fits in
+        let w : FitsBelow p.staying.items p.changed.items x.below = record { items = g.plan.items; there = g.there ∙ ap Some (sym g.plan.are); even = g.plan.even; long = g.plan.long } in
         let new : y.below ≡ with_items (planned w.items p.staying.items p.changed.items) x.below = put w.items w.there in
         let there : pass_on fs c.place x ≡ Some y = found ∙ ap (with_below x) (passed_list fs x.below g.list (planned w.items p.staying.items p.changed.items) g.there g.goes g.plan.left) ∙ ap Some (sym (same_tree y (with_items (planned w.items p.staying.items p.changed.items) x.below) kinds notes new)) in
         let out : left_out bits w.items ≡ list_gone fs x.below = ap (λ l. left_out l w.items) are ∙ g.plan.gone ∙ sym (gone_list fs x.below g.list g.there) in
-        let leaves : Leaves k (λ r. ids r (list_gone fs x.below)) (evals (list_gone fs x.below)) d = subst (λ z. Leaves k (λ r. ids r z) (evals z) d) out (left w.items (ap list_of row ∙ w.there)) in
+        let leaves : Leaves k (λ r. ids r (list_gone fs x.below)) (evals (list_gone fs x.below)) d = subst (λ z. Leaves k (λ r. ids r z) (evals z) d) out (left w.items (ap list_of at_row ∙ w.there)) in
         does_some (pass names) c x y there (edited x y noticed leaves (λ r. Prim.omega (arith, rule_refers fs c.place x y there r)) (Prim.omega (arith, rule_calls fs c.place x y there, rule_gone fs c.place x y there)))
 
 -- ---- moves

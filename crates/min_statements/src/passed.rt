@@ -4,7 +4,7 @@ ghost use Rattle.std.specs.Option.{option_map};
 ghost use Rattle.js_syntax.specs.Node.{Tree, row, forest_of};
 ghost use Rattle.scope_counts.specs.Counts.{ids};
 ghost use Rattle.min_context.specs.Edited.{evals, Leaves};
-ghost use Rattle.min_imports.specs.Passing.{left_out};
+ghost use Rattle.min_imports.specs.Passing.{left_out, uses_of};
 ghost use Rattle.min_traverse.specs.Lawful.{Does};
 ghost use Rattle.min_statements.specs.Acts as acts;
 ghost use Rattle.min_statements.specs.Passed.{list_of, out_one, PlannedBelow, FitsBelow, PutBelow};
@@ -40,6 +40,15 @@ fn list_of(children: &[Option<Node>]) -> Option<&[Option<Node>]>
     }
 }
 
+fn uses_in<'a>(facts: &Facts<'a>) -> Uses<'a>
+    ensures { result ≡ uses_of facts.now.scoping facts.now.exported }
+{
+    Uses {
+        scoping: facts.scoping,
+        exported: facts.exported,
+    }
+}
+
 fn plan_list(
     alloc: Global,
     facts: &Facts,
@@ -50,10 +59,7 @@ fn plan_list(
     let Some(items) = list_of(children) else {
         return Ok(None);
     };
-    let uses = Uses {
-        scoping: facts.scoping,
-        exported: facts.exported,
-    };
+    let uses = uses_in(facts);
     let passing = plan_passing(alloc, &uses, items)?;
     Ok(passing)
 }
