@@ -3,3 +3,4 @@ mod Refused
 mod Left
 mod Dead
 mod Stated
+mod Imported

@@ -8,11 +8,12 @@ use Rattle.js_syntax.specs.declared.operator.LogicalOperator.TheVariants as logi
 use Rattle.js_syntax.specs.declared.operator.UnaryOperator.TheVariants as unary
 use Rattle.js_syntax.specs.declared.value.Key.TheVariants as key
 use Rattle.js_syntax.specs.declared.value.LiteralValue.{LiteralValue as Literal}
+use Rattle.js_syntax.specs.declared.value.ModuleName.TheVariants as module_name
 use Rattle.js_syntax.specs.Node.{Forest, joined}
 use Rattle.form_rules.specs.Samples as form
-use Rattle.steps.specs.Allowed.Rows.{call_of_a, call_of_eval, exports_declaration, breaks_label, finally_alone, labeled, throws, null, if_null, either_way, imports_nothing, conditional, logical as either, applied, equals, array, sequence, behind_zero, while_}
+use Rattle.steps.specs.Allowed.Rows.{call_of_a, call_of_eval, exports_declaration, breaks_label, finally_alone, labeled, throws, null, if_null, either_way, imports_nothing, conditional, logical as either, applied, equals, array, sequence, behind_zero, while_, shows, shown_as, passes_from, passed_as}
 use Rattle.steps.specs.Allowed.ValueRows.{takes_call}
-use Rattle.scope_rules.specs.Samples.{imports}
+use Rattle.scope_rules.specs.Samples.{b, imports}
 use Rattle.js_meaning.specs.Samples as sample
 use Rattle.js_meaning.specs.Examples.{g, o, function_g, says_number}
 
@@ -270,3 +271,15 @@ keeps_variable = form.a_module (if_null (form.block (form.declares variable.Var 
 -- import a from 'm'; import 'm';
 abbrev pub imports_again : Forest
 imports_again = form.a_module (imports form.a ∷ imports_nothing ∷ [])
+
+-- import a from 'm'; export { a as a };
+abbrev pub shows_import : Forest
+shows_import = form.a_module (imports form.a ∷ shows (shown_as form.a form.a ∷ []) ∷ [])
+
+-- export { default as a } from 'm';
+abbrev pub passes_default : Forest
+passes_default = form.a_module (passes_from (passed_as (module_name.Name (codes "default")) form.a ∷ []) ∷ [])
+
+-- import a from 'm'; import b from 'm';
+abbrev pub imports_twice : Forest
+imports_twice = form.a_module (imports form.a ∷ imports b ∷ [])

@@ -68,7 +68,8 @@ pub fn what_others_may_use_stays()
 /// a));` and of `(1, o.g)();`, the comparison of `a() === b();`, the negation of `use(!0);`, the `if` of `if (1) a(); else b();` and of `if
 /// (null) a();`, the call of `throw 1; a();`, that of `b` in `if (null) { var a = 1; b(); } use(a);` and in `if (a && null) { b(); }`, `l:
 /// { {} }`, `l: while (null) a();`, the call of `if (null) var a = b(); use(a);`, `l: { break l; a(); }`, the `try` of `try {} finally {
-/// a(); }`, the block of `while (a) {}`, the `if` of `if (a) ;`, the alternate of `if (a) a(); else ;`, or the name of `let x = a();`.
+/// a(); }`, the block of `while (a) {}`, the `if` of `if (a) ;`, the alternate of `if (a) a(); else ;`, the name of `let x = a();`, the second
+/// import of `import a from 'm'; import b from 'm';`, or the import of `import a from 'm'; export { a };`.
 pub fn dead_code_goes()
     ensures number { Headline row.dead row.dead → ⊥ }
     ensures conditional { Headline row.takes_branch row.takes_branch → ⊥ }
@@ -97,6 +98,8 @@ pub fn dead_code_goes()
     ensures test { Headline row.tests_for_nothing row.tests_for_nothing → ⊥ }
     ensures alternate { Headline row.ends_in_nothing row.ends_in_nothing → ⊥ }
     ensures value { Headline row.names_call row.names_call → ⊥ }
+    ensures apart { Headline row.imports_twice row.imports_twice → ⊥ }
+    ensures shown { Headline row.shows_import row.shows_import → ⊥ }
 {}
 
 /// `1;` is dead code, and so are `{ ; }`'s empty statement, a function that nothing calls, one of two declarators, a name of an import that
@@ -113,7 +116,8 @@ pub fn dead_code_goes()
 /// value that is never given: `if (null) var a = b(); use(a);`, an import without names behind one of its module: `import a from 'm';
 /// import 'm';`, what a jump to its label leaves at once: `l: { break l; a(); }`, a `try` around nothing: `try {} finally { a(); }`, a
 /// block of nothing that is a body: `while (a) {}`, an `if` whose branches are empty: `if (a) ;`, an empty alternate: `if (a) a(); else ;`,
-/// and a declaration of one name that nothing refers to, though its value acts: `let x = a();`.
+/// a declaration of one name that nothing refers to, though its value acts: `let x = a();`, a second import of a module of which the first
+/// may take the names: `import a from 'm'; import b from 'm';`, and an import of what is exported alone: `import a from 'm'; export { a };`.
 pub fn dead_code_is_told()
     ensures number { Clean (a_module (does one ∷ [])) → ⊥ }
     ensures empty { Clean (a_module (block (empty ∷ []) ∷ [])) → ⊥ }
@@ -148,6 +152,8 @@ pub fn dead_code_is_told()
     ensures test { Clean row.tests_for_nothing → ⊥ }
     ensures alternate { Clean row.ends_in_nothing → ⊥ }
     ensures value { Clean row.names_call → ⊥ }
+    ensures apart { Clean row.imports_twice → ⊥ }
+    ensures shown { Clean row.shows_import → ⊥ }
 {}
 
 /// A call is none, nor a function that is exported, a variable beside a direct call of `eval`, a function of a script, a
@@ -178,7 +184,8 @@ pub fn rules_take_dead_code_alone()
 
 /// `f(1);` may take the place of `f(1); 2;`, `a();` that of `!(a() === 1);`, of `[a(), 1];`, of `({ a: a() });` and of `let x = a();`, `a(), b();` that of
 /// `[a(), 1, b()];` and of `a() === b();`, `(0, o.g)();` that of `(1 ? o.g : null)();` and of `(1, o.g)();`, `a && b();` that of `a ? b() :
-/// 1;`, `use(a);` that of `use((1, a));`, and `use(true);` that of `use(!0);`.
+/// 1;`, `use(a);` that of `use((1, a));`, `use(true);` that of `use(!0);`, and `export { default as a } from 'm';` that of `import a from 'm';
+/// export { a };`.
 pub fn what_is_left()
     ensures statement { Headline row.with_dead row.calls_host }
     ensures operand { Headline row.compares_call row.calls_a }
@@ -192,6 +199,7 @@ pub fn what_is_left()
     ensures held { Headline row.holds_call row.calls_a }
     ensures known { Headline row.uses_negation row.uses_true }
     ensures named { Headline row.names_call row.calls_a }
+    ensures shown { Headline row.shows_import row.passes_default }
 {}
 
 /// Edits lead from `f(-4); 2;` with a literal for -4 to `f(-4);`, which is written with unary minus on 4.
