@@ -1,5 +1,5 @@
 -- Which imports bind a name, and that none passes names on that doesn't bind the first that is listed.
-use Rattle.std.proofs.Common.{◌≡◌, ◌∙◌, ◌<◌, ◌≤◌, ◌+◌, ℕ, List, [], ◌∷◌, Bool, true, false, true≢false, ◌&&◌, ◌||◌, cond, Option, Some, None, is_some, if◌then◌else◌, length, drop, get_or, refl, sym, ap, ap₂, subst, arith}
+use Rattle.std.proofs.Common.{◌≡◌, ◌∙◌, ◌<◌, ◌≤◌, ◌+◌, ℕ, List, [], ◌∷◌, Bool, true, false, true≢false, ◌&&◌, ◌||◌, cond, Option, Some, None, is_some, if◌then◌else◌, length, drop, get_or, refl, sym, ap, arith}
 use Rattle.std.specs.BTreeMap as tree
 use Rattle.std.specs.BTreeMap.{BTreeMap}
 use Rattle.std.specs.Cmp.Lexicographic.{slice_cmp}
@@ -10,9 +10,9 @@ use Rattle.std.proofs.lemmas.List.{drop_all}
 use Rattle.std.proofs.lemmas.Map.Text.{is_eq-slice_cmp}
 use Rattle.std.proofs.lemmas.Slice.Eq.{bytes_eq-Decides}
 use Rattle.js_syntax.specs.declared.node_kind.NodeKind.{NodeKind as Kind}
-use Rattle.js_syntax.specs.declared.node_kind.NodeKind.TheVariants.{Specifiers as specifiers, BindingName as binding_name, ReferenceName as reference_name, ImportDeclaration as import_declaration, ExportSpecifier as export_specifier, ExportNamedDeclaration as export_named_declaration}
+use Rattle.js_syntax.specs.declared.node_kind.NodeKind.TheVariants.{Specifiers as specifiers, BindingName as binding_name, ImportDeclaration as import_declaration, ExportSpecifier as export_specifier, ExportNamedDeclaration as export_named_declaration}
 use Rattle.js_syntax.specs.declared.value.ModuleName.{ModuleName}
-use Rattle.js_syntax.specs.Node.{Tree, Forest, Note, nothing, node, absent, joined, forest_of, row}
+use Rattle.js_syntax.specs.Node.{Tree, Forest, Note, nothing, node, absent, joined, row}
 use Rattle.js_syntax.proofs.Truth.{or_false, first_of_neither, second_of_neither}
 use Rattle.js_tree.proofs.Rows.{front_of}
 use Rattle.js_tree.proofs.Search.{AsksEach}
@@ -21,7 +21,7 @@ use Rattle.steps.specs.Allowed.MergedImports.{is_one_name, are_names}
 use Rattle.steps.specs.Allowed.PassedExports.{lists, lists_each, may_pass}
 use Rattle.steps.specs.Allowed.Places.{has_node}
 use Rattle.rules.specs.DeadCode.Rules.{Facts}
-use Rattle.rules.specs.Imports.Passed.{are_passed_alone, imported, bound_in, and_passed, passed, namespace_passed, export_of, passed_on, passed_among, passed_before, one_passes}
+use Rattle.rules.specs.Imports.Passed.{are_passed_alone, bound_in, and_passed, passed, namespace_passed, export_of, passed_on, passed_among, passed_before, one_passes}
 use Rattle.min_imports.specs.declared.passing.Within.{Within}
 use Rattle.min_imports.specs.Merging.{is_import, imported_from, names_of, is_missing, or_changed}
 use Rattle.min_imports.specs.Passing.{bound_below, bound_text, listed_below, is_text, or_found, names_bind, imports_names, names_in, item_binds, is_plain, exports_names, specifiers_of, item_exports, has_export, stretch, widened, widened_if, Covered, first_text, is_namespace_alone, only_exported, exported_as, exported_alone, reference_alone, item_passed_on, passes_at, imports}

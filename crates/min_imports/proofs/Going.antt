@@ -1,5 +1,5 @@
 -- Exports that go since an import has their names: one item after the other, and the list that is left.
-use Rattle.std.proofs.Common.{◌≡◌, ◌∙◌, ◌<◌, ◌≤◌, ◌+◌, ◌⊎◌, inl, inr, ⊎_elim, ℕ, zero, suc, List, [], ◌∷◌, ◌++◌, Bool, true, false, true≢false, not, ◌&&◌, ◌||◌, Option, Some, None, is_some, if◌then◌else◌, length, length-append, drop, get_or, set, refl, sym, ap, ap₂, subst, arith}
+use Rattle.std.proofs.Common.{◌≡◌, ◌∙◌, ◌<◌, ◌≤◌, ◌+◌, ◌⊎◌, inl, inr, ⊎_elim, ℕ, zero, suc, List, [], ◌∷◌, ◌++◌, Bool, true, false, true≢false, not, ◌||◌, Option, Some, None, is_some, if◌then◌else◌, length, length-append, drop, get_or, set, refl, sym, ap, ap₂, subst, arith}
 use Rattle.std.specs.Bool.{beq}
 use Rattle.std.specs.BTreeMap.{BTreeMap, is_at}
 use Rattle.std.specs.Cmp.Lexicographic.{slice_cmp}
@@ -7,7 +7,7 @@ use Rattle.std.specs.Map.{lookup}
 use Rattle.std.specs.Ordering.{nat_cmp}
 use Rattle.std.specs.List.{items_where_true, list_any}
 use Rattle.std.proofs.lemmas.List.{drop_all, get_or_read_under, get_or_past, get_or_push, get_or_append_left, get_or-set_same, get_or-set_other}
-use Rattle.js_syntax.specs.Node.{Tree, Forest, nothing, node, absent, joined, forest_of, row}
+use Rattle.js_syntax.specs.Node.{Tree, Forest, nothing, joined, forest_of, row}
 use Rattle.js_syntax.proofs.Truth.{or_false, or_associates}
 use Rattle.js_tree.proofs.Rows.{front_of, joined_nothing, joined_assoc}
 use Rattle.rules.specs.DeadCode.Rules.{Facts}
@@ -15,9 +15,9 @@ use Rattle.rules.specs.Imports.Passed.{put_in, passed_among, passed_before, one_
 use Rattle.min_imports.specs.declared.passing.Passing.{Passing}
 use Rattle.min_imports.specs.declared.passing.Within.{Within}
 use Rattle.min_imports.specs.Merging.{is_import, or_changed, overlaid, planned, is_missing}
-use Rattle.min_imports.specs.Passing.{passes_at, imports, NoImports, Beside, Passes, item_binds, names_bind, names_in, stretch, stretch_for, widened, widened_if, Holds, EndsBy, Covers, first_text, left_out, ItemPasses, Plan, Planned}
+use Rattle.min_imports.specs.Passing.{passes_at, imports, NoImports, Beside, Passes, item_binds, names_bind, stretch, stretch_for, widened_if, Holds, EndsBy, Covers, first_text, left_out, ItemPasses, Plan, Planned}
 use Rattle.min_imports.proofs.Overlaid.{over_long, over_at, over_set, over_push, planned_push}
-use Rattle.min_imports.proofs.Binding.{Starts, starts, became, no_names}
+use Rattle.min_imports.proofs.Binding.{starts, became, no_names}
 use denote.Ref.{Bor}
 
 cases_eq : (j i : ℕ) → (j ≡ i) ⊎ (j ≡ i → ⊥)

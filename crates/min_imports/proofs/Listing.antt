@@ -1,5 +1,5 @@
 -- What an export lists, told by sets, and whether it lists the names of an import.
-use Rattle.std.proofs.Common.{◌≡◌, ◌∙◌, ◌<◌, ◌≤◌, ◌==◌, ◌+◌, ℕ, List, [], ◌∷◌, Bool, true, false, not, ◌&&◌, ◌||◌, cond, Option, Some, None, if◌then◌else◌, length, drop, get_or, map, refl, sym, ap, ap₂, arith}
+use Rattle.std.proofs.Common.{◌≡◌, ◌∙◌, ◌<◌, ◌≤◌, ◌==◌, ◌+◌, ℕ, List, [], ◌∷◌, Bool, true, false, not, ◌&&◌, ◌||◌, cond, Option, Some, None, if◌then◌else◌, length, drop, get_or, map, refl, sym, ap, arith}
 use Rattle.std.specs.BTreeSet as sorted
 use Rattle.std.specs.BTreeSet.{BTreeSet}
 use Rattle.std.specs.Cmp.{unsigned_tied, nat_eq_equiv}
@@ -10,7 +10,7 @@ use Rattle.std.specs.Str.{bytes_eq}
 use Rattle.std.proofs.lemmas.List.{drop_more, drop_all}
 use Rattle.std.proofs.lemmas.Map.Text.{is_eq-slice_cmp}
 use Rattle.js_syntax.specs.declared.node_kind.NodeKind.{NodeKind as Kind}
-use Rattle.js_syntax.specs.declared.node_kind.NodeKind.TheVariants.{BindingName as binding_name, ReferenceName as reference_name}
+use Rattle.js_syntax.specs.declared.node_kind.NodeKind.TheVariants.{BindingName as binding_name}
 use Rattle.js_syntax.specs.Node.{Tree, Forest, Note, nothing, node, absent, row}
 use Rattle.js_tree.proofs.Rows.{front_of}
 use Rattle.js_tree.proofs.Search.{AsksEach}
@@ -20,7 +20,7 @@ use Rattle.steps.specs.Allowed.PassedExports.{lists, lists_each, may_pass}
 use Rattle.steps.specs.Allowed.Places.{has_node}
 use Rattle.rules.specs.DeadCode.Rules.{Facts}
 use Rattle.rules.specs.Imports.Passed.{is_number, has_reference, is_passed_alone, are_passed_alone}
-use Rattle.min_imports.specs.Passing.{listed_below, listed_text, reference_below, listed_reference, bound_below, bound_text, symbol_below, bound_symbol, has_text, has_number, Told, text_is_listed, name_passes, fails, is_text}
+use Rattle.min_imports.specs.Passing.{listed_below, listed_text, reference_below, listed_reference, bound_below, symbol_below, has_text, has_number, Told, text_is_listed, name_passes, fails, is_text}
 use denote.Ref.{Bor}
 
 -- ---- one specifier of an export

@@ -1,5 +1,5 @@
 -- To which exports the names of an import are bound, and what an export lists of them.
-use Rattle.std.proofs.Common.{◌≡◌, ◌∙◌, ◌<◌, ◌≤◌, ◌+◌, ◌-◌, ℕ, List, [], ◌∷◌, ◌++◌, Bool, true, false, ◌&&◌, cond, Option, Some, None, is_some, if◌then◌else◌, length, drop, get_or, refl, sym, ap, ap₂, subst, arith}
+use Rattle.std.proofs.Common.{◌≡◌, ◌∙◌, ◌<◌, ◌≤◌, ◌+◌, ℕ, List, [], ◌∷◌, ◌++◌, Bool, true, false, ◌&&◌, cond, Option, Some, None, is_some, if◌then◌else◌, length, drop, get_or, refl, sym, ap, subst, arith}
 use Rattle.std.specs.BTreeMap as tree
 use Rattle.std.specs.BTreeMap.{BTreeMap}
 use Rattle.std.specs.Cmp.Lexicographic.{slice_cmp}
@@ -9,7 +9,7 @@ use Rattle.std.specs.Str.{bytes_eq}
 use Rattle.std.proofs.lemmas.List.{drop_all}
 use Rattle.std.proofs.lemmas.Map.Text.{is_eq-slice_cmp}
 use Rattle.js_syntax.specs.declared.node_kind.NodeKind.{NodeKind as Kind}
-use Rattle.js_syntax.specs.declared.node_kind.NodeKind.TheVariants.{Specifiers as specifiers, BindingName as binding_name, ReferenceName as reference_name, ImportDeclaration as import_declaration, ExportSpecifier as export_specifier, ForeignSpecifier as foreign_specifier}
+use Rattle.js_syntax.specs.declared.node_kind.NodeKind.TheVariants.{Specifiers as specifiers, ImportDeclaration as import_declaration, ExportSpecifier as export_specifier}
 use Rattle.js_syntax.specs.declared.value.ModuleName.{ModuleName}
 use Rattle.js_syntax.specs.Node.{Tree, Forest, Note, nothing, node, absent, joined, forest_of, row}
 use Rattle.js_tree.proofs.Rows.{front_of, joined_nothing, joined_assoc, row_push}
@@ -17,7 +17,7 @@ use Rattle.steps.specs.Allowed.PassedExports.{may_pass}
 use Rattle.rules.specs.DeadCode.Rules.{Facts}
 use Rattle.rules.specs.Imports.Passed.{are_passed_alone, imported, bound_in, and_passed, passed, namespace_passed, export_of, passed_on}
 use Rattle.min_imports.specs.Merging.{imported_from}
-use Rattle.min_imports.specs.Passing.{bound_below, is_text, imported_there, found_in, or_found, item_found, Bound, exported_as, name_alone, reference_alone, exported_alone, is_namespace_alone, only_exported, is_list, list_among}
+use Rattle.min_imports.specs.Passing.{bound_below, is_text, imported_there, found_in, or_found, item_found, Bound, exported_as, reference_alone, exported_alone, is_namespace_alone, only_exported, list_among}
 use denote.Ref.{Bor}
 
 -- ---- names and their kinds

@@ -1,8 +1,8 @@
 -- The items of a list and what those become that change, put together.
-use Rattle.std.proofs.Common.{◌≡◌, ◌∙◌, ◌<◌, ◌≤◌, ◌+◌, ℕ, zero, suc, List, [], ◌∷◌, ◌++◌, Bool, true, false, Option, Some, None, if◌then◌else◌, length, take, get_or, set, append-nil, refl, sym, ap, ap₂, subst, arith}
+use Rattle.std.proofs.Common.{◌≡◌, ◌∙◌, ◌<◌, ◌≤◌, ◌+◌, ℕ, zero, suc, List, [], ◌∷◌, ◌++◌, Bool, true, false, Option, Some, None, if◌then◌else◌, length, take, get_or, set, append-nil, refl, sym, ap, ap₂, arith}
 use Rattle.std.specs.List.{items_where_true}
 use Rattle.std.proofs.lemmas.List.{take-append-le, take_all}
-use Rattle.js_syntax.specs.Node.{Tree, Forest, joined, row}
+use Rattle.js_syntax.specs.Node.{Tree, joined, row}
 use Rattle.js_tree.proofs.Rows.{row_push}
 use Rattle.min_imports.specs.Merging.{or_changed, overlaid, planned}
 

@@ -1,5 +1,5 @@
 -- A plan for the items of a list: what is taken by which of them, and the list that is left by it.
-use Rattle.std.proofs.Common.{◌≡◌, ◌∙◌, ◌<◌, ◌≤◌, ◌+◌, ℕ, zero, suc, List, [], ◌∷◌, ◌++◌, Bool, true, false, true≢false, not, ◌&&◌, ◌||◌, cond, Option, Some, None, if◌then◌else◌, length, length-append, take, drop, get_or, set, append-nil, refl, sym, ap, ap₂, subst, arith}
+use Rattle.std.proofs.Common.{◌≡◌, ◌∙◌, ◌<◌, ◌≤◌, ◌+◌, ℕ, suc, List, [], ◌∷◌, ◌++◌, Bool, true, false, true≢false, not, ◌&&◌, ◌||◌, cond, Option, Some, None, if◌then◌else◌, length, length-append, drop, get_or, set, refl, sym, ap, ap₂, subst, arith}
 use Rattle.std.specs.Bool.{beq}
 use Rattle.std.specs.BTreeSet as sorted
 use Rattle.std.specs.BTreeSet.{BTreeSet, contains_by}
@@ -7,18 +7,18 @@ use Rattle.std.specs.Cmp.Lexicographic.{slice_cmp}
 use Rattle.std.specs.List.{items_where_true, list_any}
 use Rattle.std.specs.Ordering.{nat_cmp}
 use Rattle.std.specs.Str.{bytes_eq}
-use Rattle.std.proofs.lemmas.List.{drop_all, take-append-le, take_all}
+use Rattle.std.proofs.lemmas.List.{drop_all}
 use Rattle.std.proofs.lemmas.Map.Text.{is_eq-slice_cmp}
 use Rattle.js_syntax.specs.declared.node_kind.NodeKind.{NodeKind as Kind}
 use Rattle.js_syntax.specs.declared.node_kind.NodeKind.TheVariants.{ImportDeclaration as import_declaration, Specifiers as specifiers}
 use Rattle.js_syntax.specs.Node.{Tree, Forest, Note, nothing, node, absent, joined, forest_of, row}
 use Rattle.js_syntax.proofs.Truth.{first_of_neither, second_of_neither, or_false, or_associates}
-use Rattle.js_tree.proofs.Rows.{front_of, joined_nothing, joined_assoc, row_push}
+use Rattle.js_tree.proofs.Rows.{front_of, joined_nothing, joined_assoc}
 use Rattle.js_tree.proofs.Search.{AsksEach}
 use Rattle.steps.specs.Allowed.MergedImports.{may_merge}
 use Rattle.rules.specs.Imports.Merged.{takes, with_names, is_taken, taken, goes, given, one_goes, together}
 use Rattle.rules.proofs.Imports.Together.{none_come}
-use Rattle.min_imports.proofs.Overlaid.{over_long, over_at, over_set, planned_push}
+use Rattle.min_imports.proofs.Overlaid.{over_at, over_set, planned_push}
 use Rattle.min_imports.specs.Merging.{is_import, has_import, imported_from, names_of, list_takes, asks, one_asks, Known, or_changed, overlaid, planned, shifted, receiver, with_more, go_on, more_go, is_missing, TreeGoes, ItemGoes, Plan}
 use denote.Ref.{Bor}
 

@@ -12,9 +12,8 @@ use Rattle.std.specs.Str.{bytes_eq}
 use Rattle.js_syntax.specs.declared.node_kind.NodeKind.{NodeKind as Kind}
 use Rattle.js_syntax.specs.declared.node_kind.NodeKind.TheVariants.{Specifiers as specifiers, BindingName as binding_name, ReferenceName as reference_name, ExportNamedDeclaration as export_named_declaration, ExportSpecifier as export_specifier, ImportNamespaceSpecifier as import_namespace_specifier, ImportDeclaration as import_declaration}
 use Rattle.js_syntax.specs.declared.value.ModuleName.{ModuleName}
-use Rattle.js_syntax.specs.Node.{Forest, Note, Tree, nothing, node, absent, joined, forest_of, row}
+use Rattle.js_syntax.specs.Node.{Forest, Note, Tree, nothing, node, absent, joined, row}
 use Rattle.scope_rules.specs.Table.{Scoping}
-use Rattle.steps.specs.Allowed.Arranged.{is_nothing}
 use Rattle.steps.specs.Allowed.MergedImports.{are_names}
 use Rattle.steps.specs.Allowed.PassedExports.{lists, lists_each}
 use Rattle.rules.specs.DeadCode.Rules.{Facts}

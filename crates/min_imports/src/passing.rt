@@ -1,5 +1,5 @@
 // Imports that only feed exports become exports from their modules.
-ghost use Rattle.std.specs.Prelude.{◌≡◌, ◌<◌, ◌≤◌, ℕ, List, length, [], ◌∷◌, ◌||◌, true, false, None, is_some, get_or, IfOk, OnOk, IsOk};
+ghost use Rattle.std.specs.Prelude.{◌≡◌, ◌<◌, ◌≤◌, ℕ, List, length, [], ◌||◌, true, false, None, is_some, get_or, IfOk, OnOk, IsOk};
 ghost use Rattle.std.specs.Option.{option_map};
 ghost use Rattle.std.specs.Str.{bytes_eq};
 ghost use Rattle.js_syntax.specs.Node.{Forest, absent, row, forest_of};

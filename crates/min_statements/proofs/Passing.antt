@@ -2,7 +2,7 @@
 use Rattle.std.proofs.Common.{◌≡◌, ◌∙◌, ◌<◌, ◌≤◌, ◌+◌, ℕ, zero, suc, length, take, get_or, set, List, [], ◌∷◌, ◌++◌, Bool, true, false, true≢false, not, ◌&&◌, ◌||◌, if◌then◌else◌, Option, Some, None, is_some, refl, sym, ap, ap₂, subst, arith}
 use Rattle.std.proofs.lemmas.List.{take_more, take_all}
 use Rattle.js_syntax.specs.declared.node_kind.NodeKind.{NodeKind as Kind}
-use Rattle.js_syntax.specs.declared.node_kind.NodeKind.TheVariants.{Program as program, Statements as statements, ImportDeclaration as import_declaration, Specifiers as specifiers, BindingName as binding_name, ExportNamedDeclaration as export_named_declaration}
+use Rattle.js_syntax.specs.declared.node_kind.NodeKind.TheVariants.{Program as program, Statements as statements, ImportDeclaration as import_declaration, ExportNamedDeclaration as export_named_declaration}
 use Rattle.js_syntax.specs.declared.scalar.SourceType.TheVariants as source_type
 use Rattle.js_syntax.specs.Node.{Forest, Tree, Note, nothing, node, absent, joined, forest_of, row}
 use Rattle.scope_counts.specs.Edits.{plug}
@@ -26,8 +26,8 @@ use Rattle.min_traverse.specs.Lawful.{Stays, Does, or_same}
 use Rattle.min_traverse.specs.Moves.{Holds, NodeMoves, before}
 use Rattle.min_traverse.proofs.Joining.{does_some, does_none}
 use Rattle.rules.specs.DeadCode.Rules.{Facts}
-use Rattle.rules.specs.Imports.Merged.{with_below, is_outermost, come_together}
-use Rattle.rules.specs.Imports.Passed.{is_passed_alone, are_passed_alone, namespace_passed, passed, export_of, passed_on, put_in, passed_among, passed_before, one_passes, or_joined, all_passed, and_gone, all_gone, list_passed, list_gone, below_passed, pass_on}
+use Rattle.rules.specs.Imports.Merged.{with_below, is_outermost}
+use Rattle.rules.specs.Imports.Passed.{is_passed_alone, are_passed_alone, namespace_passed, passed, export_of, passed_on, put_in, passed_among, passed_before, one_passes, or_joined, all_passed, and_gone, all_gone, list_passed, list_gone, pass_on}
 use Rattle.rules.proofs.Imports.Passing.{rule_edits, rule_lighter, rule_refers, rule_calls, rule_gone}
 use Rattle.min_statements.specs.Acts.{merge, pass}
 use Rattle.min_statements.specs.Merged.{is_module, is_statements}

@@ -1,10 +1,10 @@
 -- What the call does of a declaration that becomes a statement of its value, and that it may.
-use Rattle.std.proofs.Common.{◌≡◌, ◌∙◌, ◌+◌, ℕ, List, [], ◌∷◌, length, Bool, true, false, if◌then◌else◌, Option, Some, None, is_some, refl, sym, ap, ap₂, subst, arith}
+use Rattle.std.proofs.Common.{◌≡◌, ◌∙◌, ◌+◌, ℕ, List, Bool, true, false, if◌then◌else◌, Option, Some, None, is_some, refl, sym, ap, subst, arith}
 use Rattle.js_syntax.specs.declared.node_kind.NodeKind.{NodeKind as Kind}
 use Rattle.js_syntax.specs.declared.node_kind.NodeKind.TheVariants.{ExpressionStatement as expression_statement, VariableDeclaration as variable_declaration}
 use Rattle.js_syntax.specs.declared.kind.VariableKind.{VariableKind}
 use Rattle.js_syntax.specs.declared.scalar.Span.{Span}
-use Rattle.js_syntax.specs.Node.{Forest, Tree, Note, nothing, node, alone, row, forest_of}
+use Rattle.js_syntax.specs.Node.{Forest, Tree, Note, nothing, alone, forest_of}
 use Rattle.scope_counts.specs.Counts.{ids}
 use Rattle.scope_counts.specs.Edits.{plug}
 use Rattle.scope_laws.specs.Place.{Around}

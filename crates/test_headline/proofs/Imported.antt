@@ -1,5 +1,5 @@
 -- Imports that may come together, and one that an export alone needs.
-use Rattle.std.proofs.Common.{[], codes, inr, refl}
+use Rattle.std.proofs.Common.{codes, inr, refl}
 use Rattle.js_syntax.specs.Class.{root}
 use Rattle.js_syntax.specs.declared.scalar.SourceType.TheVariants as source_type
 use Rattle.js_syntax.specs.declared.value.ModuleName.TheVariants as module_name

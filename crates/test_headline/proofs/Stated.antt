@@ -1,5 +1,5 @@
 -- The value of a variable that nothing refers to stays as a statement.
-use Rattle.std.proofs.Common.{◌≡◌, ◌∙◌, [], ◌∷◌, List, Some, None, false, inl, inr, refl, sym, ap}
+use Rattle.std.proofs.Common.{◌≡◌, ◌∙◌, List, Some, None, inl, inr, refl, sym, ap}
 use Rattle.js_syntax.specs.Class.{root}
 use Rattle.js_syntax.specs.declared.kind.VariableKind.TheVariants as variable
 use Rattle.js_syntax.specs.declared.scalar.SourceType.TheVariants as source_type

@@ -1,5 +1,5 @@
 -- A declaration of a name that nothing uses becomes a statement of its value by a single edit.
-use Rattle.std.proofs.Common.{◌≡◌, ◌∙◌, ◌≤◌, ◌+◌, ℕ, List, Bool, true, false, not, ◌&&◌, if◌then◌else◌, Option, Some, None, true≢false, refl, sym, ap, subst, arith}
+use Rattle.std.proofs.Common.{◌≡◌, ◌∙◌, ◌≤◌, ◌+◌, ℕ, List, Bool, true, false, not, ◌&&◌, if◌then◌else◌, Some, None, true≢false, refl, sym, ap, subst, arith}
 use Rattle.std.proofs.lemmas.Bool.{and_parts}
 use Rattle.js_syntax.specs.declared.node_kind.NodeKind.{NodeKind as Kind}
 use Rattle.js_syntax.specs.declared.node_kind.NodeKind.TheVariants.{Statements as statements, ExpressionStatement as expression_statement, VariableDeclaration as variable_declaration, VariableDeclarator as variable_declarator, Declarators as declarators, BindingName as binding_name}
@@ -23,15 +23,14 @@ use Rattle.scope_counts.specs.Edits.{plug}
 use Rattle.steps.specs.KeepForm.Part.{declares_one}
 use Rattle.steps.specs.Allowed.EmptyIf.{statement_of}
 use Rattle.steps.specs.Allowed.Edits.{Edit, becomes, value_stays}
-use Rattle.steps.specs.Allowed.Places.{asked_at, IsItem}
-use Rattle.steps.specs.Allowed.UnusedDeclaration.{a_declaration}
+use Rattle.steps.specs.Allowed.Places.{asked_at}
 use Rattle.steps.specs.Allowed.ValueStays.{may_be_stated, declaration_of_value, ValueStays, value_is_stated}
 use Rattle.steps.specs.Marked.Flags.{declares_in, stand}
 use Rattle.rules.specs.DeadCode.Rules as rules
 use Rattle.rules.specs.DeadCode.Rules.{Facts, where_of, has_with, scope_of, variable_is_unused, is_item_under, is_item, name_is_unused, value_of_stays, value_of_one_stays, value_in_stays, value_of_list_stays, becomes_stated, value_below, stated}
 use Rattle.rules.specs.DeadCode.Knows.{Knows}
 use Rattle.rules.proofs.DeadCode.LaidOut.{fits_laid}
-use Rattle.rules.proofs.DeadCode.Places.{to, plugged, asked_to, with_is}
+use Rattle.rules.proofs.DeadCode.Places.{to, asked_to, with_is}
 use Rattle.rules.proofs.DeadCode.Numbers.{declares_there, whole_stand, numbers, stand_to}
 use Rattle.rules.proofs.DeadCode.Leaving.{declaration_unused}
 use Rattle.rules.proofs.DeadCode.Items.{becomes_there, knows_there}

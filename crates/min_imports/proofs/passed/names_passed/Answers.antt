@@ -1,7 +1,7 @@
 use Rattle.std.proofs.Common.{◌∙◌, Some, None, sym, ap}
 use Rattle.std.specs.Option.{option_map}
 use Rattle.js_syntax.specs.declared.node_kind.NodeKind.TheVariants.{ExportNamedDeclaration as export_named_declaration}
-use Rattle.js_syntax.specs.Node.{Tree, Forest, absent, row, forest_of}
+use Rattle.js_syntax.specs.Node.{Tree, absent, row, forest_of}
 use Rattle.rules.specs.Imports.Passed.{passed, export_of}
 use Rattle.min_imports.proofs.passed.names_passed.Goals as goal
 

@@ -1,4 +1,4 @@
-use Rattle.std.proofs.Common.{rules, vec_len, ◌≡◌, ◌∙◌, ℕ, List, length, sym, ap, subst, arith}
+use Rattle.std.proofs.Common.{rules, vec_len, ◌≡◌, ◌∙◌, ℕ, List, length, ap, subst, arith}
 use Rattle.min_imports.specs.Merging.{planned}
 use Rattle.min_imports.specs.Passing.{ItemPasses, widened_if, item_binds, stretch}
 use Rattle.min_imports.proofs.Going.{so_begins, so_more, so_ends, there_still}
