@@ -3,14 +3,15 @@ use Rattle.std.proofs.Common.{◌≡◌, Bool, true, false, ◌&&◌, ◌||◌, 
 use Rattle.js_syntax.specs.Node.{Tree, forest_of, row}
 use Rattle.js_syntax.proofs.Truth.{or_false}
 use Rattle.js_tree.proofs.Search.{AsksEach}
+use Rattle.js_effects.specs.declared.surroundings.Surroundings.{Surroundings}
 use Rattle.js_effects.specs.Silence.{has_effect, may_have_effects}
 use Rattle.js_effects.specs.Answers.{Answers}
 use Rattle.js_effects.specs.Kinds.{types, all_primitive}
 use Rattle.js_effects.specs.Effects.{has_spread, acts, any_acts}
 
-pub effects_each : (bound : List Bool) (in_with : Bool) → AsksEach (may_have_effects bound in_with)
-effects_each bound in_with None ts = refl
-effects_each bound in_with (Some t) ts = ap (λ (b : Bool). b || may_have_effects bound in_with (row ts)) (sym (or_false (has_effect bound in_with t.kind t.note t.below (may_have_effects bound in_with t.below))))
+pub effects_each : (bound : List Bool) (s : Surroundings) → AsksEach (may_have_effects bound s)
+effects_each bound s None ts = refl
+effects_each bound s (Some t) ts = ap (λ (b : Bool). b || may_have_effects bound s (row ts)) (sym (or_false (has_effect bound s t.kind t.note t.below (may_have_effects bound s t.below))))
 
 pub acts_one : (A : Answers) (t : Tree) → any_acts A (row (Some t ∷ [])) ≡ acts A (forest_of t)
 acts_one A t = or_false (acts A (forest_of t))

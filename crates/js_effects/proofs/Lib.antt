@@ -7,3 +7,4 @@ pub mod Unary
 pub mod Alike
 pub mod OneName
 pub mod Bare
+pub mod Sorts

@@ -9,6 +9,7 @@ ghost use Rattle.js_effects.specs.Silence.{may_have_effects};
 use crate::child::{child, inner_child};
 use crate::context::FormsAlone;
 use crate::effects::{converts_primitives, has_spread, is_array, is_silent_key, only_runs_parts};
+use crate::surroundings::Surroundings;
 use js_syntax::{FunctionKind, NodeKind, UnaryOperator};
 use js_tree::Node;
 
@@ -108,8 +109,8 @@ fn has_one_name(node: &Node) -> bool
     }
 }
 
-fn is_known(node: &Node, bound: &[bool]) -> bool
-    ensures { result ≡ silence.is_known bound.now node.now.kind node.now.note node.now.below }
+fn is_known_name(node: &Node, bound: &[bool]) -> bool
+    ensures { result ≡ silence.is_known_name bound.now node.now.kind node.now.note node.now.below }
 {
     match node.kind() {
         NodeKind::ReferenceName(name) => {
@@ -120,24 +121,36 @@ fn is_known(node: &Node, bound: &[bool]) -> bool
     }
 }
 
-/// Whether an expression may have an effect. `bound` says of each reference by its number whether its
-/// name has a binding, and `in_with` whether the expression stands inside of a `with` statement. The
-/// recursion goes as deep as the tree.
-#[cycle(silent)]
-pub fn may_have_side_effects(node: &Node, bound: &[bool], in_with: bool) -> bool
-    ensures answer { result ≡ may_have_effects bound.now in_with (forest_of node.now) }
+fn is_this(kind: &NodeKind) -> bool
+    ensures { result ≡ silence.is_this kind.now }
 {
-    let is_silent = is_value(node.kind()) || (!in_with && is_known(node, bound));
-    !is_silent && (!runs_its_parts(node) || any_has_effects(node.children(), bound, in_with))
+    matches!(kind, NodeKind::ThisExpression)
+}
+
+fn is_known(node: &Node, bound: &[bool], around: Surroundings) -> bool
+    ensures { result ≡ silence.is_known bound.now around node.now.kind node.now.note node.now.below }
+{
+    (!around.in_with && is_known_name(node, bound)) || (!around.in_class && is_this(node.kind()))
+}
+
+/// Whether an expression may have an effect. `bound` says of each reference by its number whether its
+/// name has a binding, and `around` what stands around the expression. The recursion goes as deep as the
+/// tree.
+#[cycle(silent)]
+pub fn may_have_side_effects(node: &Node, bound: &[bool], around: Surroundings) -> bool
+    ensures answer { result ≡ may_have_effects bound.now around (forest_of node.now) }
+{
+    let is_silent = is_value(node.kind()) || is_known(node, bound, around);
+    !is_silent && (!runs_its_parts(node) || any_has_effects(node.children(), bound, around))
 }
 
 #[cycle(silent)]
-fn any_has_effects(children: &[Option<Node>], bound: &[bool], in_with: bool) -> bool
-    ensures { result ≡ may_have_effects bound.now in_with (row children.now) }
+fn any_has_effects(children: &[Option<Node>], bound: &[bool], around: Surroundings) -> bool
+    ensures { result ≡ may_have_effects bound.now around (row children.now) }
 {
     for child in children {
         if let Some(node) = child {
-            if may_have_side_effects(node, bound, in_with) {
+            if may_have_side_effects(node, bound, around) {
                 return true;
             }
         }
@@ -146,8 +159,12 @@ fn any_has_effects(children: &[Option<Node>], bound: &[bool], in_with: bool) -> 
 }
 
 /// Whether no node of a row may have an effect.
-pub fn none_has_side_effects(children: &[Option<Node>], bound: &[bool], in_with: bool) -> bool
-    ensures answer { result ≡ not (may_have_effects bound.now in_with (row children.now)) }
+pub fn none_has_side_effects(
+    children: &[Option<Node>],
+    bound: &[bool],
+    around: Surroundings,
+) -> bool
+    ensures answer { result ≡ not (may_have_effects bound.now around (row children.now)) }
 {
-    !any_has_effects(children, bound, in_with)
+    !any_has_effects(children, bound, around)
 }

@@ -6,7 +6,7 @@ use Rattle.js_syntax.specs.declared.kind.FunctionKind.TheVariants as function_ki
 use Rattle.js_syntax.specs.declared.value.LiteralValue.{LiteralValue}
 use Rattle.js_syntax.specs.Class.{root}
 use Rattle.js_syntax.specs.Node.{Forest, Note, nothing, node, absent}
-use Rattle.js_effects.specs.Silence.{may_have_effects}
+use Rattle.js_effects.specs.Silence.{outside, may_have_effects}
 use Rattle.json_shape.specs.Shape.{Fits}
 use Rattle.scope_laws.specs.Exact.{Among}
 use Rattle.scope_table.specs.Reading.{reference_at, is_write}
@@ -84,7 +84,7 @@ pub record IsConstant (c : Seen) (t : Forest) (symbol : ℕ) (value : LiteralVal
 pub record IsSilent (t : Forest) (symbol : ℕ) : Type 0 where
   pub once : counted (declares symbol) t ≤ 1
   pub functions : counted (declares symbol) t ≡ counted (is_function symbol) t
-  pub body : Each (λ k n below. 1 ≤ is_function symbol k n below → may_have_effects [] false (behind_name below) ≡ false) t
+  pub body : Each (λ k n below. 1 ≤ is_function symbol k n below → may_have_effects [] outside (behind_name below) ≡ false) t
 
 abbrev pub Does : Summary → Forest → (symbol : ℕ) → Type 0
 Does unknown t symbol = Unit {0}

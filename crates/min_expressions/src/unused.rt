@@ -13,7 +13,7 @@ use crate::bare::stands_bare;
 use crate::kept::keep_child;
 use crate::parts::{Parts, parts_of};
 use crate::uses::{Use, is_unused_from, operand_of};
-use js_effects::{may_have_side_effects, only_combines};
+use js_effects::{Surroundings, may_have_side_effects, only_combines};
 use js_syntax::NodeKind;
 use js_tree::Node;
 use min_context::MinifierTraverseCtx;
@@ -21,7 +21,11 @@ use min_context::MinifierTraverseCtx;
 pub(crate) fn acts(node: &Node) -> bool
     ensures { result ≡ operation.acts node.now.kind node.now.note node.now.below }
 {
-    may_have_side_effects(node, &[], true)
+    let anywhere = Surroundings {
+        in_with: true,
+        in_class: true,
+    };
+    may_have_side_effects(node, &[], anywhere)
 }
 
 // Whether it acts, and may stand there itself, as an operand that is used so.

@@ -1,7 +1,7 @@
 // What is asked of a program's first expression, pattern and names.
 use crate::answer::{either, shown};
 use crate::tree::first_below;
-use js_effects::may_have_side_effects;
+use js_effects::{Surroundings, may_have_side_effects};
 use js_tree::{
     Ident, LiteralValue, Node, NodeKind, Program, Text, as_direct_eval_call, bound_names,
 };
@@ -42,7 +42,11 @@ pub(crate) fn bound(alloc: Global, program: &Program) -> Result<String, AllocErr
 }
 
 pub(crate) fn is_silent(alloc: Global, program: &Program) -> Result<String, AllocError> {
-    let has_effects = may_have_side_effects(expression(program), &[], false);
+    let outside = Surroundings {
+        in_with: false,
+        in_class: false,
+    };
+    let has_effects = may_have_side_effects(expression(program), &[], outside);
     either(alloc, has_effects, "not silent", "silent")
 }
 

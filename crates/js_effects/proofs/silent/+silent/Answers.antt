@@ -16,18 +16,18 @@ any_has_effects-may_have_side_effects-requires z c =
 
 pub any_has_effects-returns-then-may_have_side_effects : goal.any_has_effects-returns-then-may_have_side_effects
 any_has_effects-returns-then-may_have_side_effects z c =
-    let asks = may_have_effects c.args.bound.now c.args.in_with in
+    let asks = may_have_effects c.args.bound.now c.args.around in
     let told : asks (row (c.child-item.result ∷ [])) ≡ true = rw c.in-Some.is (sym c.may_have_side_effects.ensures.answer ∙ c.if-may_have_side_effects.true) in
-    sym (found_at asks (effects_each c.args.bound.now c.args.in_with) c.args.children.now c.loop-child.child-index c.child-item.result c.loop-child-test.true c.child-item.is told)
+    sym (found_at asks (effects_each c.args.bound.now c.args.around) c.args.children.now c.loop-child.child-index c.child-item.result c.loop-child-test.true c.child-item.is told)
 
 pub any_has_effects-loop-child-preserved : goal.any_has_effects-loop-child-preserved
 any_has_effects-loop-child-preserved z c =
-    let asks = may_have_effects c.args.bound.now c.args.in_with in
+    let asks = may_have_effects c.args.bound.now c.args.around in
     let none : asks (row (c.child-item.result ∷ [])) ≡ false = elim c.match-child.branch [
       | any_has_effects-in-Some+else-may_have_side_effects w ↦ rw w.in-Some.is (sym w.may_have_side_effects.ensures.answer ∙ w.if-may_have_side_effects.false)
       | any_has_effects-in_default w ↦ rw w.in_default.is refl
     ] in
-    rest_of asks (effects_each c.args.bound.now c.args.in_with) c.args.children.now c.loop-child.child-index c.child-item.result c.loop-child-test.true c.child-item.is none c.loop-child.invariant
+    rest_of asks (effects_each c.args.bound.now c.args.around) c.args.children.now c.loop-child.child-index c.child-item.result c.loop-child-test.true c.child-item.is none c.loop-child.invariant
 
 pub any_has_effects-returns : goal.any_has_effects-returns
-any_has_effects-returns z c = sym (none_found (may_have_effects c.args.bound.now c.args.in_with) c.args.children.now c.loop-child.child-index refl (omega (arith, c.loop-child-test.false)) c.loop-child.invariant)
+any_has_effects-returns z c = sym (none_found (may_have_effects c.args.bound.now c.args.around) c.args.children.now c.loop-child.child-index refl (omega (arith, c.loop-child-test.false)) c.loop-child.invariant)

@@ -11,4 +11,4 @@ abbrev pub decreases-any_has_effects : goal.decreases-any_has_effects
 decreases-any_has_effects l = 2 * size_of (row l.children.now) + 1
 
 abbrev pub invariant-any_has_effects-loop-child : goal.invariant-any_has_effects-loop-child
-invariant-any_has_effects-loop-child l = may_have_effects l.bound l.in_with (row l.children) ≡ may_have_effects l.bound l.in_with (row (drop l.child-index l.children))
+invariant-any_has_effects-loop-child l = may_have_effects l.bound l.around (row l.children) ≡ may_have_effects l.bound l.around (row (drop l.child-index l.children))
