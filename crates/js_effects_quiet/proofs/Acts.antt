@@ -6,7 +6,7 @@ use Rattle.js_syntax.specs.declared.kind.ClassKind.TheVariants as class_kind
 use Rattle.js_syntax.specs.declared.operator.UnaryOperator.TheVariants as unary
 use Rattle.js_syntax.specs.Facts.{is_core}
 use Rattle.js_syntax.specs.Node.{Forest, nothing, node, absent, Note}
-use Rattle.js_syntax.proofs.Truth.{first_of_both, second_of_both, first_of_neither, second_of_neither}
+use Rattle.js_syntax.proofs.Truth.{first_of_both, second_of_both, first_of_neither, second_of_neither, not_true}
 use Rattle.js_effects.specs.Answers.{Answers}
 use Rattle.js_effects.specs.Still.{is_value}
 use Rattle.js_effects.specs.Effects.{is_silent_name, is_typeof_name, is_still, does_nothing, only_runs_parts, converts_primitives, has_silent_key, runs_as_allowed, runs_parts, parts_run, part_acts, acts_from, each_acts, any_acts}
@@ -21,21 +21,9 @@ use Rattle.js_effects_quiet.specs.Quiet.{Quietly, IsNormal, Quiet}
 use Rattle.js_effects_quiet.specs.Silent.{HasBinding, QuietNode, QuietRow, meaning}
 use Rattle.js_effects_quiet.specs.Acts.{IsTold, AreTold, AreTrue}
 use Rattle.js_effects_quiet.proofs.Quiet.{quiet_done, quiet_unknown, quiet_value}
-use Rattle.js_effects_quiet.proofs.Silent.{quiet_need, quiet_slot, quiet_kind, quiet_reference, quiet_typeof, quiet_only, quiet_converts, quiet_property, quiet_properties, quiet_core}
+use Rattle.js_effects_quiet.proofs.Silent.{quiet_need, quiet_kind, quiet_this, quiet_reference, quiet_typeof, quiet_only, quiet_converts, quiet_property, quiet_properties, quiet_core}
 
 -- ---- names and `this`
-
-quiet_bound : (o : Option Slot) (x : Text) → is_some o ≡ true → Quiet (name_value o x)
-quiet_bound (Some slot) x b = quiet_slot slot
-quiet_bound None x b = absurd (true≢false (sym b))
-
-quiet_this : (E : Enter) (env : Env) (a : Forest) (ms : Parts) → HasBinding env this_name → QuietNode env (does E Kind.ThisExpression a ms)
-quiet_this E env a ms b (value w) = quiet_bound (look env this_name) this_name b
-quiet_this E env a ms b q = quiet_unknown
-
-not_is : (b : Bool) → not b ≡ true → b ≡ false
-not_is true e = absurd (true≢false (sym e))
-not_is false e = refl
 
 -- a silent name has a binding, or is `undefined`, where other globals act
 known_name : (g u act : Bool) (B : Type 0) → act ≡ true → (not g || (u || not act)) ≡ true → (g ≡ false → B) → B ⊎ (u ≡ true)
@@ -49,7 +37,7 @@ module _ (A : Answers) (env : Env) (E : Enter) (true_of : AreTrue A env) where
   quiet_silent_name (Kind.ReferenceName x) n a e told =
       quiet_reference E env a (eval E a) x
       (known_name (A.names.is_global (Kind.ReferenceName x) n) (bytes_eq x (codes "undefined")) A.effects.unknown_globals_act (HasBinding env x) true_of.globals (second_of_both (not A.effects.inside_with) _ e)
-      (told (not_is A.effects.inside_with (first_of_both (not A.effects.inside_with) _ e))))
+      (told (not_true A.effects.inside_with (first_of_both (not A.effects.inside_with) _ e))))
   quiet_silent_name k n a e told = absurd (true≢false (sym e))
 
   quiet_typeof_name : (k : Kind) (a : Forest) → is_typeof_name A k a ≡ true → QuietNode env (does E k a (eval E a))

@@ -18,7 +18,7 @@ use Rattle.js_effects.specs.Kinds.{asks_an_object, types, all_primitive}
 use Rattle.js_effects.specs.Still.{is_value}
 use Rattle.js_effects.specs.Effects.{is_name, only_runs_parts, is_silent_binary, converts_primitives}
 use Rattle.js_effects.specs.Silence.{is_nothing, is_one_name, runs_entries, runs_its_parts}
-use Rattle.js_meaning.specs.Value.{Text, Slot, local, imported, arguments_object, bound as is_at, Env, Value, closure, undef}
+use Rattle.js_meaning.specs.Value.{Text, Slot, local, imported, arguments_object, bound as is_at, Env, this_name, Value, closure, undef}
 use Rattle.js_meaning.specs.State.{Cell, cell, Completion, normal, gives, gives_all, M, give, alloc, identity}
 use Rattle.js_meaning.specs.Operator.{truthy, goes_right}
 use Rattle.js_meaning.specs.Scope.{waiting, named_so, own_name, look, declare, initialised, fill}
@@ -88,6 +88,14 @@ quiet_name (Some slot) x h = quiet_slot slot
 quiet_name None x (inl e) = absurd (true≢false (sym e))
 quiet_name None x (inr e) = quiet_undefined if_there x e
 
+quiet_bound : (o : Option Slot) (x : Text) → is_some o ≡ true → Quiet (name_value o x)
+quiet_bound (Some slot) x b = quiet_slot slot
+quiet_bound None x b = absurd (true≢false (sym b))
+
+pub quiet_this : (E : Enter) (env : Env) (a : Forest) (ms : Parts) → HasBinding env this_name → QuietNode env (does E Kind.ThisExpression a ms)
+quiet_this E env a ms b (value w) = quiet_bound (look env this_name) this_name b
+quiet_this E env a ms b q = quiet_unknown
+
 quiet_typeof_name : (o : Option Slot) (x : Text) → Quiet (typeof_name o x)
 quiet_typeof_name (Some slot) x = quiet_slot slot
 quiet_typeof_name None x = quiet_typeof_global (global_named x) x
@@ -156,6 +164,7 @@ one_name (absent r) e = absurd (true≢false (sym e))
 
 pub quiet_found : (E : Enter) (env : Env) (a : Forest) (k : Kind) → IsFound env k a → QuietNode env (does E k a (eval E a))
 quiet_found E env a (Kind.ReferenceName x) h = quiet_reference E env a (eval E a) x h
+quiet_found E env a Kind.ThisExpression h = quiet_this E env a (eval E a) h
 quiet_found E env a (Kind.UnaryExpression unary.Typeof) h = quiet_typeof E env a (one_name a h)
 quiet_found E env a k h = absurd h
 

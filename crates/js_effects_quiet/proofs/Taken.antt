@@ -1,10 +1,11 @@
 -- What a remover takes for silent has no effects by the answers of a context.
-use Rattle.std.proofs.Common.{◌≡◌, ◌∙◌, inl, inr, ℕ, List, Bool, true, false, not, ◌&&◌, ◌||◌, Option, Some, None, if◌then◌else◌, bytes_eq, codes, refl, sym, subst, true≢false}
+use Rattle.std.proofs.Common.{◌≡◌, ◌∙◌, inl, inr, ℕ, List, Bool, true, false, not, ◌&&◌, ◌||◌, Option, Some, None, if◌then◌else◌, bytes_eq, codes, refl, sym, ap, subst, true≢false}
 use Rattle.std.specs.List.{list_any}
 use Rattle.js_syntax.specs.declared.node_kind.NodeKind.{NodeKind as Kind}
 use Rattle.js_syntax.specs.declared.operator.UnaryOperator.TheVariants as unary
 use Rattle.js_syntax.specs.Node.{Forest, nothing, node, absent, Note}
 use Rattle.js_syntax.proofs.Truth.{neither, first_of_neither, second_of_neither}
+use Rattle.js_effects.specs.declared.surroundings.Surroundings.{Surroundings}
 use Rattle.js_effects.specs.declared.value.ValueType.{ValueType}
 use Rattle.js_effects.specs.declared.value.ValueType.TheVariants.{Undefined, Undetermined}
 use Rattle.js_effects.specs.Answers.{Answers, bare_answers}
@@ -13,10 +14,10 @@ use Rattle.js_effects.proofs.Alike.{same_types}
 use Rattle.js_effects.specs.Kinds.{is_named_undefined, type_by_number, type_of_name, types, type_at, all_primitive, is_primitive}
 use Rattle.js_effects.specs.Still.{is_value}
 use Rattle.js_effects.specs.Effects.{is_name, is_silent_name, is_typeof_name, is_still, does_nothing, only_runs_parts, substitutions, is_silent_unary, is_silent_binary, converts_primitives, is_private, is_static, runs_as_allowed, runs_parts, parts_run, part_acts, acts_from, each_acts, any_acts}
-use Rattle.js_effects.specs.Silence.{runs_entries, runs_its_parts, is_marked, is_known, has_effect, may_have_effects}
+use Rattle.js_effects.specs.Silence.{runs_entries, runs_its_parts, is_marked, is_known_name, is_this, is_known, has_effect, may_have_effects}
 use Rattle.js_effects_quiet.specs.Acts.{marked_answers}
 use Rattle.js_effects_quiet.proofs.Silent.{one_name, one_of_three}
-use Rattle.js_effects_quiet.proofs.Marks.{by_sort}
+use Rattle.js_effects.proofs.Sorts.{by_sort, known_by}
 
 -- ---- types, where no name has one
 
@@ -34,12 +35,12 @@ never_global : (u : Bool) (t : ValueType) → t ≡ Undetermined → (if u && fa
 never_global true t e = e
 never_global false t e = e
 
-module _ (bound : List Bool) (w : Bool) where
+module _ (bound : List Bool) (s : Surroundings) where
   abbrev A : Answers
-  A = marked_answers bound w
+  A = marked_answers bound s
 
   same_name : (k : Kind) (n : Note) → type_of_name bare_answers k n ≡ type_of_name A k n
-  same_name k n = never_global (is_named_undefined k) _ (no_type n.id) ∙ sym (not_global w (is_named_undefined k) (is_marked bound n.id) _ (no_type n.id))
+  same_name k n = never_global (is_named_undefined k) _ (no_type n.id) ∙ sym (not_global s.in_with (is_named_undefined k) (is_marked bound n.id) _ (no_type n.id))
 
   same : (t : Forest) → types bare_answers t ≡ types A t
   same t = same_types bare_answers A same_name t
@@ -113,6 +114,13 @@ module _ (bound : List Bool) (w : Bool) where
   idle_parts false true b e f = f
   idle_parts false false b e f = absurd (true≢false (sym e))
 
+  idle_fourth : (v d y c x : Bool) → c ≡ true → (if v || (d || (y || c)) then false else x) ≡ false
+  idle_fourth true d y c x e = refl
+  idle_fourth false true y c x e = refl
+  idle_fourth false false true c x e = refl
+  idle_fourth false false false true x e = refl
+  idle_fourth false false false false x e = absurd (true≢false (sym e))
+
   a_name : (v m u g : Bool) → v ≡ false → (m || u) ≡ true → (not v && (not (not (m || u)) || g)) ≡ true
   a_name true m u g e f = absurd (true≢false e)
   a_name false true u g e f = refl
@@ -123,24 +131,34 @@ module _ (bound : List Bool) (w : Bool) where
   outside true b e f = absurd (true≢false e)
   outside false b e f = f
 
-  known_acts_not : (k : Kind) (n : Note) (a : Forest) → w ≡ false → is_known bound k n a ≡ true → acts_from A k n a (each_acts A a) ≡ false
-  known_acts_not (Kind.ReferenceName x) n a e f =
-      idle_second false (is_silent_name A (Kind.ReferenceName x) n) (is_typeof_name A (Kind.ReferenceName x) a || is_still A (Kind.ReferenceName x) a) _ (a_name w (is_marked bound n.id) (bytes_eq x (codes "undefined")) _ e f)
-  known_acts_not (Kind.UnaryExpression unary.Typeof) n a e f =
-      idle_third false (is_silent_name A (Kind.UnaryExpression unary.Typeof) n) (is_typeof_name A (Kind.UnaryExpression unary.Typeof) a) (is_still A (Kind.UnaryExpression unary.Typeof) a) _ (outside w (is_name (inner_at 0 a)) e (one_name a f))
-  known_acts_not k n a e f = absurd (true≢false (sym f))
+  name_acts_not : (k : Kind) (n : Note) (a : Forest) → s.in_with ≡ false → is_known_name bound k n a ≡ true → acts_from A k n a (each_acts A a) ≡ false
+  name_acts_not (Kind.ReferenceName x) n a e f =
+      idle_second false (is_silent_name A (Kind.ReferenceName x) n) (is_typeof_name A (Kind.ReferenceName x) a || is_still A (Kind.ReferenceName x) a) _ (a_name s.in_with (is_marked bound n.id) (bytes_eq x (codes "undefined")) _ e f)
+  name_acts_not (Kind.UnaryExpression unary.Typeof) n a e f =
+      idle_third false (is_silent_name A (Kind.UnaryExpression unary.Typeof) n) (is_typeof_name A (Kind.UnaryExpression unary.Typeof) a) (is_still A (Kind.UnaryExpression unary.Typeof) a) _ (outside s.in_with (is_name (inner_at 0 a)) e (one_name a f))
+  name_acts_not k n a e f = absurd (true≢false (sym f))
 
-  acts_not : (k : Kind) (n : Note) (a : Forest) → has_effect bound w k n a (may_have_effects bound w a) ≡ false → (may_have_effects bound w a ≡ false → any_acts A a ≡ false) → acts_from A k n a (each_acts A a) ≡ false
-  acts_not k n a e below = elim (by_sort (is_value k) w (is_known bound k n a) (runs_its_parts k a) (may_have_effects bound w a) e) [
+  this_acts_not : (k : Kind) (n : Note) (a : Forest) → s.in_class ≡ false → is_this k ≡ true → acts_from A k n a (each_acts A a) ≡ false
+  this_acts_not Kind.ThisExpression n a e f = idle_fourth false (is_silent_name A Kind.ThisExpression n) (is_typeof_name A Kind.ThisExpression a) (is_still A Kind.ThisExpression a) _ (ap not e)
+  this_acts_not k n a e f = absurd (true≢false (sym f))
+
+  known_acts_not : (k : Kind) (n : Note) (a : Forest) → is_known bound s k n a ≡ true → acts_from A k n a (each_acts A a) ≡ false
+  known_acts_not k n a e = elim (known_by bound s k n a e) [
+    | inl b ↦ name_acts_not k n a b.0 b.1
+    | inr b ↦ this_acts_not k n a b.0 b.1
+  ]
+
+  acts_not : (k : Kind) (n : Note) (a : Forest) → has_effect bound s k n a (may_have_effects bound s a) ≡ false → (may_have_effects bound s a ≡ false → any_acts A a ≡ false) → acts_from A k n a (each_acts A a) ≡ false
+  acts_not k n a e below = elim (by_sort (is_value k) (is_known bound s k n a) (runs_its_parts k a) (may_have_effects bound s a) e) [
     | inl v ↦ idle_first (is_value k) _ _ v
-    | inr (inl b) ↦ known_acts_not k n a b.0 b.1
+    | inr (inl b) ↦ known_acts_not k n a b
     | inr (inr r) ↦ idle_parts (does_nothing A k n a) (runs_parts A k a) (part_acts (parts_run k) (each_acts A a)) (runs_too k a r.0) (all_run k a (each_acts A a) r.0 (below r.1))
   ]
 
-  pub taken : (t : Forest) → may_have_effects bound w t ≡ false → any_acts A t ≡ false
+  pub taken : (t : Forest) → may_have_effects bound s t ≡ false → any_acts A t ≡ false
   taken nothing e = refl
   taken (absent r) e = taken r e
   taken (node k n a r) e =
       neither (acts_from A k n a (each_acts A a)) (any_acts A r)
-      (acts_not k n a (first_of_neither (has_effect bound w k n a (may_have_effects bound w a)) (may_have_effects bound w r) e) (taken a))
-      (taken r (second_of_neither (has_effect bound w k n a (may_have_effects bound w a)) (may_have_effects bound w r) e))
+      (acts_not k n a (first_of_neither (has_effect bound s k n a (may_have_effects bound s a)) (may_have_effects bound s r) e) (taken a))
+      (taken r (second_of_neither (has_effect bound s k n a (may_have_effects bound s a)) (may_have_effects bound s r) e))

@@ -3,6 +3,7 @@
 use Rattle.std.specs.Prelude.{◌≡◌, List, Bool, true, false, not, ◌||◌, None}
 use Rattle.js_syntax.specs.declared.node_kind.NodeKind.{NodeKind as Kind}
 use Rattle.js_syntax.specs.Node.{Forest, nothing, node, absent, Note}
+use Rattle.js_effects.specs.declared.surroundings.Surroundings.{Surroundings}
 use Rattle.js_effects.specs.Answers.{Names, Effects, Answers, answers, bare_effects}
 use Rattle.js_effects.specs.Kinds.{is_named_undefined}
 use Rattle.js_effects.specs.Silence.{is_marked}
@@ -31,12 +32,12 @@ pub record AreTrue (A : Answers) (env : Env) : Type 0 where
   pub globals : A.effects.unknown_globals_act ≡ true
   pub this : A.effects.this_is_initialised ≡ true → HasBinding env this_name
 
--- By marks: a name that isn't marked is called global, but `undefined`, of which nothing is told; `this` may not be read.
+-- By marks: a name that isn't marked is called global, but `undefined`, of which nothing is told; `this` may be read outside of classes.
 abbrev pub marked_names : (bound : List Bool) → Names
 marked_names bound = record { is_global = λ k n. not (is_marked bound n.id || is_named_undefined k); constant = λ i. None; constant_type = λ i. None }
 
-abbrev pub marked_effects : (in_with : Bool) → Effects
-marked_effects in_with = record bare_effects { this_is_initialised = false; inside_with = in_with }
+abbrev pub marked_effects : Surroundings → Effects
+marked_effects s = record bare_effects { this_is_initialised = not s.in_class; inside_with = s.in_with }
 
-abbrev pub marked_answers : (bound : List Bool) → (in_with : Bool) → Answers
-marked_answers bound in_with = answers (marked_names bound) (marked_effects in_with)
+abbrev pub marked_answers : (bound : List Bool) → Surroundings → Answers
+marked_answers bound s = answers (marked_names bound) (marked_effects s)

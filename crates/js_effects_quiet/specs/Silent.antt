@@ -7,7 +7,7 @@ use Rattle.js_syntax.specs.Facts.{is_core}
 use Rattle.js_syntax.specs.declared.operator.UnaryOperator.TheVariants as unary
 use Rattle.js_effects.specs.Still.{is_value}
 use Rattle.js_effects.specs.Silence.{runs_its_parts, is_marked, is_one_name}
-use Rattle.js_meaning.specs.Value.{Text, Env}
+use Rattle.js_meaning.specs.Value.{Text, Env, this_name}
 use Rattle.js_meaning.specs.State.{Completion}
 use Rattle.js_meaning.specs.Scope.{look}
 use Rattle.js_meaning.specs.Host.{Enter}
@@ -18,11 +18,12 @@ use Rattle.js_effects_quiet.specs.Quiet.{Quietly, IsValue, IsList}
 abbrev pub HasBinding : Env → Text → Type 0
 HasBinding env x = is_some (look env x) ≡ true
 
--- What is silent in an environment: a value; a name that has a binding there, or is `undefined`; `typeof` of any name; what
--- runs its parts, where these are silent.
+-- What is silent in an environment: a value; a name that has a binding there, or is `undefined`; `typeof` of any name; `this`, where
+-- it has a binding; what runs its parts, where these are silent.
 abbrev pub IsFound : Env → Kind → (below : Forest) → Type 0
 IsFound env (Kind.ReferenceName x) a = HasBinding env x ⊎ (bytes_eq x (codes "undefined") ≡ true)
 IsFound env (Kind.UnaryExpression unary.Typeof) a = is_one_name a ≡ true
+IsFound env Kind.ThisExpression a = HasBinding env this_name
 IsFound env k a = ⊥
 
 abbrev pub IsSilent : Env → Kind → (below : Forest) → (parts : Type 0) → Type 0

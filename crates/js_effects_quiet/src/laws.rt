@@ -4,8 +4,9 @@ ghost use Rattle.js_syntax.specs.declared.node_kind.NodeKind.{NodeKind as Kind};
 ghost use Rattle.js_syntax.specs.Node.{Forest, Note, alone};
 ghost use Rattle.js_effects.specs.Answers.{Answers};
 ghost use Rattle.js_effects.specs.Effects.{any_acts};
-ghost use Rattle.js_effects.specs.Silence.{may_have_effects};
-ghost use Rattle.js_meaning.specs.Value.{Text, Env, Value};
+ghost use Rattle.js_effects.specs.declared.surroundings.Surroundings.{Surroundings};
+ghost use Rattle.js_effects.specs.Silence.{anywhere, may_have_effects};
+ghost use Rattle.js_meaning.specs.Value.{Text, Env, this_name, Value};
 ghost use Rattle.js_meaning.specs.Trace.{Ending};
 ghost use Rattle.js_meaning.specs.State.{State, gives, goes, stops, M};
 ghost use Rattle.js_meaning.specs.Host.{Enter};
@@ -21,26 +22,27 @@ pub fn silent_rows_are_quiet()
 {}
 
 /// What has no effects is quiet, whatever it is asked, where the names that are marked as bound have
-/// bindings.
+/// bindings, but inside of `with`, and where `this` has one, but in classes.
 pub fn silence_is_quiet()
-    ensures { (bound : List Bool) (env : Env) (E : Enter) (t : Forest) → may_have_effects bound false t ≡ false → Known bound env t → QuietRow env (eval E t) }
+    ensures { (bound : List Bool) (s : Surroundings) (env : Env) (E : Enter) (t : Forest) → may_have_effects bound s t ≡ false →
+        (s.in_with ≡ false → Known bound env t) → (s.in_class ≡ false → HasBinding env this_name) → QuietRow env (eval E t) }
 {}
 
-/// What has no effects inside of `with`, where no name is known, is quiet in every environment.
-pub fn silence_inside_with_is_quiet()
-    ensures { (bound : List Bool) (env : Env) (E : Enter) (t : Forest) → may_have_effects bound true t ≡ false → QuietRow env (eval E t) }
+/// What has no effects where neither names nor `this` are known is quiet in every environment.
+pub fn silence_anywhere_is_quiet()
+    ensures { (bound : List Bool) (env : Env) (E : Enter) (t : Forest) → may_have_effects bound anywhere t ≡ false → QuietRow env (eval E t) }
 {}
 
 /// The same of one node: asked for its value, it is quiet.
 pub fn a_silent_node_is_quiet()
-    ensures { (bound : List Bool) (env : Env) (E : Enter) (k : Kind) (n : Note) (a : Forest) →
-        may_have_effects bound false (alone k n a) ≡ false → Known bound env (alone k n a) → QuietNode env (meaning E k a) }
+    ensures { (bound : List Bool) (s : Surroundings) (env : Env) (E : Enter) (k : Kind) (n : Note) (a : Forest) → may_have_effects bound s (alone k n a) ≡ false →
+        (s.in_with ≡ false → Known bound env (alone k n a)) → (s.in_class ≡ false → HasBinding env this_name) → QuietNode env (meaning E k a) }
 {}
 
 /// A statement of a silent expression completes normally, and that is all.
 pub fn a_silent_statement_is_quiet()
-    ensures { (bound : List Bool) (env : Env) (E : Enter) (a : Forest) (ls : List Text) →
-        may_have_effects bound false a ≡ false → Known bound env a → Quietly IsNormal (meaning E Kind.ExpressionStatement a (run ls) env) }
+    ensures { (bound : List Bool) (s : Surroundings) (env : Env) (E : Enter) (a : Forest) (ls : List Text) → may_have_effects bound s a ≡ false →
+        (s.in_with ≡ false → Known bound env a) → (s.in_class ≡ false → HasBinding env this_name) → Quietly IsNormal (meaning E Kind.ExpressionStatement a (run ls) env) }
 {}
 
 /// What has no effects by the answers of a context, names, `this` and options included, is quiet, whatever
@@ -53,9 +55,9 @@ pub fn what_does_not_act_is_quiet()
 {}
 
 /// What the remover takes out as silent has no effects by the answers of a context that knows of names
-/// whether they have bindings, and of neither types nor `this`.
+/// whether they have bindings and of `this` whether a class stands around, and of no types.
 pub fn what_is_taken_does_not_act()
-    ensures { (bound : List Bool) (in_with : Bool) (t : Forest) → may_have_effects bound in_with t ≡ false → any_acts (marked_answers bound in_with) t ≡ false }
+    ensures { (bound : List Bool) (s : Surroundings) (t : Forest) → may_have_effects bound s t ≡ false → any_acts (marked_answers bound s) t ≡ false }
 {}
 
 /// What quiet says: from every state the computation gives a value without an event, by allocation

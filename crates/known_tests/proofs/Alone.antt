@@ -9,7 +9,7 @@ use Rattle.js_syntax.specs.declared.operator.LogicalOperator.{LogicalOperator}
 use Rattle.js_syntax.specs.Facts.{is_core}
 use Rattle.js_syntax.specs.Node.{Forest, Note, nothing, node, absent, alone}
 use Rattle.js_syntax.proofs.Truth.{first_of_neither, second_of_neither}
-use Rattle.js_effects.specs.Silence.{has_effect, may_have_effects}
+use Rattle.js_effects.specs.Silence.{anywhere, has_effect, may_have_effects}
 use Rattle.js_values.specs.Gives.{Ends}
 use Rattle.js_values.proofs.Gives.{ends_any, ends_unknown, ends_done, ends_choose, ends_bind, ends_with, ends_identity, ends_fill, ends_declare}
 use Rattle.js_values.proofs.Plain.{plain_unary, plain_binary}
@@ -93,12 +93,12 @@ module _ (E : Enter) (env : Env) where
   branch_alone (node k n a (node l m b (absent r))) h = ends_unknown
   branch_alone (node k n a (node l m b (node j i c r))) h = with_alone _ _ (λ v. ends_choose (truthy v) (λ e. h.1.0) (λ e. h.1.1.0))
 
-  operator_alone : (o : BinaryOperator) (n : Note) (a : Forest) (parts : Bool) → has_effect [] true (Kind.BinaryExpression o) n a parts ≡ false → (v u : Value) → Ends Alone (binary_value E o v u)
+  operator_alone : (o : BinaryOperator) (n : Note) (a : Forest) (parts : Bool) → has_effect [] anywhere (Kind.BinaryExpression o) n a parts ≡ false → (v u : Value) → Ends Alone (binary_value E o v u)
   operator_alone binary.In n a parts e v u = absurd (true≢false e)
   operator_alone binary.Instanceof n a parts e v u = absurd (true≢false e)
   operator_alone o n a parts e v u = plain_binary (λ v. refl) o v u
 
-  does_alone : (k : Kind) (n : Note) (a : Forest) → has_effect [] true k n a (may_have_effects [] true a) ≡ false → (may_have_effects [] true a ≡ false → AloneRow a) → Ends Alone (does E k a (eval E a) now env)
+  does_alone : (k : Kind) (n : Note) (a : Forest) → has_effect [] anywhere k n a (may_have_effects [] anywhere a) ≡ false → (may_have_effects [] anywhere a ≡ false → AloneRow a) → Ends Alone (does E k a (eval E a) now env)
   does_alone (Kind.Literal v) n a e h = given (literal_value v)
   does_alone (Kind.Function function_kind.Expression pure) n a e h = function_alone function_kind.Expression a env
   does_alone (Kind.Function function_kind.Arrow pure) n a e h = function_alone function_kind.Arrow a env
@@ -109,7 +109,7 @@ module _ (E : Enter) (env : Env) where
   does_alone Kind.SequenceExpression n a e h = first_alone a (h e)
   does_alone Kind.Expressions n a e h = last_alone a (h e)
   does_alone (Kind.UnaryExpression o) n a e h = need_any (eval E a) (λ m r. with_alone _ (unary_of o) (λ v. plain_unary (λ v. refl) o v))
-  does_alone (Kind.BinaryExpression o) n a e h = need_any (eval E a) (λ l r. need_any r (λ m r. with_alone _ _ (λ v. with_alone _ _ (λ u. operator_alone o n a (may_have_effects [] true a) e v u))))
+  does_alone (Kind.BinaryExpression o) n a e h = need_any (eval E a) (λ l r. need_any r (λ m r. with_alone _ _ (λ v. with_alone _ _ (λ u. operator_alone o n a (may_have_effects [] anywhere a) e v u))))
   does_alone (Kind.LogicalExpression o) n a e h = side_alone o a (h e)
   does_alone Kind.ConditionalExpression n a e h = branch_alone a (h e)
   does_alone Kind.ThisExpression n a e h = absurd (true≢false e)
@@ -121,13 +121,13 @@ module _ (E : Enter) (env : Env) where
   does_alone (Kind.MemberExpression key optional) n a e h = absurd (true≢false e)
   does_alone k n a e h = ends_unknown
 
-  alone_row : (t : Forest) → may_have_effects [] true t ≡ false → AloneRow t
+  alone_row : (t : Forest) → may_have_effects [] anywhere t ≡ false → AloneRow t
   alone_row nothing e = tt
   alone_row (absent r) e = alone_row r e
   alone_row (node k n a r) e = (
-    core_alone (is_core k) (does E k a (eval E a)) (does_alone k n a (first_of_neither (has_effect [] true k n a (may_have_effects [] true a)) (may_have_effects [] true r) e) (alone_row a)),
-    alone_row r (second_of_neither (has_effect [] true k n a (may_have_effects [] true a)) (may_have_effects [] true r) e),
+    core_alone (is_core k) (does E k a (eval E a)) (does_alone k n a (first_of_neither (has_effect [] anywhere k n a (may_have_effects [] anywhere a)) (may_have_effects [] anywhere r) e) (alone_row a)),
+    alone_row r (second_of_neither (has_effect [] anywhere k n a (may_have_effects [] anywhere a)) (may_have_effects [] anywhere r) e),
   )
 
-pub gives_alone : (k : Kind) (n : Note) (a : Forest) → may_have_effects [] true (alone k n a) ≡ false → GivesAlone k a
+pub gives_alone : (k : Kind) (n : Note) (a : Forest) → may_have_effects [] anywhere (alone k n a) ≡ false → GivesAlone k a
 gives_alone k n a e = λ E env. (alone_row E env (alone k n a) e).0

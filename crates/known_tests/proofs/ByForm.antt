@@ -7,7 +7,7 @@ use Rattle.js_syntax.specs.Node.{Forest, Note, alone}
 use Rattle.js_effects.specs.declared.value.ValueType.{ValueType}
 use Rattle.js_effects.specs.declared.value.ValueType.TheVariants as type
 use Rattle.js_effects.specs.Answers.{bare_answers}
-use Rattle.js_effects.specs.Silence.{may_have_effects}
+use Rattle.js_effects.specs.Silence.{anywhere, may_have_effects}
 use Rattle.js_effects.specs.Values.{truth_of}
 use Rattle.js_effects_quiet.specs.Quiet.{Quiet}
 use Rattle.js_effects_quiet.proofs.Silent.{quiet_node}
@@ -64,13 +64,13 @@ not_not : (b : Bool) → not (not b) ≡ b
 not_not true = refl
 not_not false = refl
 
-silent : (k : Kind) (n : Note) (a : Forest) → may_have_effects [] true (alone k n a) ≡ false → (E : Enter) (env : Env) → Quiet (meaning E k a now env)
-silent k n a idle E env = quiet_node env E k n a (silent_row [] true env (alone k n a) idle (λ w. absurd (true≢false w))) now
+silent : (k : Kind) (n : Note) (a : Forest) → may_have_effects [] anywhere (alone k n a) ≡ false → (E : Enter) (env : Env) → Quiet (meaning E k a now env)
+silent k n a idle E env = quiet_node env E k n a (silent_row [] anywhere env (λ w. absurd (true≢false w)) (alone k n a) idle (λ w. absurd (true≢false w))) now
 
 pub truth_gives : (k : Kind) (n : Note) (a : Forest) (b : Bool) → truth_of bare_answers (alone k n a) ≡ Some b → GivesOnly (λ v. truthy v ≡ b) k a
 truth_gives k n a b is E env = gives_less (λ v told. truth_is _ v b told.known is) ((told_by_form env E (alone k n a)).0 itself)
 
-pub truth_tells : (k : Kind) (n : Note) (a : Forest) (b : Bool) → may_have_effects [] true (alone k n a) ≡ false → truth_of bare_answers (alone k n a) ≡ Some b → Tells (λ v. truthy v ≡ b) k a
+pub truth_tells : (k : Kind) (n : Note) (a : Forest) (b : Bool) → may_have_effects [] anywhere (alone k n a) ≡ false → truth_of bare_answers (alone k n a) ≡ Some b → Tells (λ v. truthy v ≡ b) k a
 truth_tells k n a b idle is = record {
   quiet = silent k n a idle;
   told = truth_gives k n a b is;
@@ -81,5 +81,5 @@ way_gives And k n a b is E env = truth_gives k n a b is E env
 way_gives Or k n a b is E env = gives_less (λ v h. ap not h ∙ not_not b) (truth_gives k n a (not b) (opposite_is (truth_of bare_answers (alone k n a)) b is) E env)
 way_gives Coalesce k n a b is E env = gives_less (λ v told. nullish_is _ v b told.type is) ((told_by_form env E (alone k n a)).0 itself)
 
-pub way_tells : (o : LogicalOperator) (k : Kind) (n : Note) (a : Forest) (b : Bool) → may_have_effects [] true (alone k n a) ≡ false → way_known o (alone k n a) ≡ Some b → Tells (λ v. goes_right o v ≡ b) k a
+pub way_tells : (o : LogicalOperator) (k : Kind) (n : Note) (a : Forest) (b : Bool) → may_have_effects [] anywhere (alone k n a) ≡ false → way_known o (alone k n a) ≡ Some b → Tells (λ v. goes_right o v ≡ b) k a
 way_tells o k n a b idle is = record { quiet = silent k n a idle; told = way_gives o k n a b is }

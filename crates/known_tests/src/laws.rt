@@ -4,7 +4,7 @@ ghost use Rattle.js_syntax.specs.declared.node_kind.NodeKind.{NodeKind as Kind};
 ghost use Rattle.js_syntax.specs.declared.operator.LogicalOperator.{LogicalOperator};
 ghost use Rattle.js_syntax.specs.Node.{Forest, Note, nothing, node, absent, alone};
 ghost use Rattle.js_effects.specs.Answers.{bare_answers};
-ghost use Rattle.js_effects.specs.Silence.{may_have_effects};
+ghost use Rattle.js_effects.specs.Silence.{anywhere, may_have_effects};
 ghost use Rattle.js_effects.specs.Values.{truth_of};
 ghost use Rattle.js_meaning.specs.Operator.{truthy, goes_right};
 ghost use Rattle.js_meaning_near.specs.Names.{Names};
@@ -18,15 +18,15 @@ ghost use Rattle.known_tests.specs.Tells.{Tells, GivesOnly, GivesAlone, way_know
 /// whether it is true in a test, or whether a logical expression goes on to its right side. Of one that has effects
 /// each value that it gives is so.
 pub fn forms_tell()
-    ensures truth { (k : Kind) (n : Note) (a : Forest) (b : Bool) → may_have_effects [] true (alone k n a) ≡ false → truth_of bare_answers (alone k n a) ≡ Some b → Tells (λ v. truthy v ≡ b) k a }
+    ensures truth { (k : Kind) (n : Note) (a : Forest) (b : Bool) → may_have_effects [] anywhere (alone k n a) ≡ false → truth_of bare_answers (alone k n a) ≡ Some b → Tells (λ v. truthy v ≡ b) k a }
     ensures given { (k : Kind) (n : Note) (a : Forest) (b : Bool) → truth_of bare_answers (alone k n a) ≡ Some b → GivesOnly (λ v. truthy v ≡ b) k a }
     ensures way_given { (o : LogicalOperator) (k : Kind) (n : Note) (a : Forest) (b : Bool) → way_known o (alone k n a) ≡ Some b → GivesOnly (λ v. goes_right o v ≡ b) k a }
-    ensures way { (o : LogicalOperator) (k : Kind) (n : Note) (a : Forest) (b : Bool) → may_have_effects [] true (alone k n a) ≡ false → way_known o (alone k n a) ≡ Some b → Tells (λ v. goes_right o v ≡ b) k a }
+    ensures way { (o : LogicalOperator) (k : Kind) (n : Note) (a : Forest) (b : Bool) → may_have_effects [] anywhere (alone k n a) ≡ false → way_known o (alone k n a) ≡ Some b → Tells (λ v. goes_right o v ≡ b) k a }
 {}
 
 /// And it gives its value without a receiver, where it is asked for the value alone.
 pub fn no_receiver_is_given()
-    ensures { (k : Kind) (n : Note) (a : Forest) → may_have_effects [] true (alone k n a) ≡ false → GivesAlone k a }
+    ensures { (k : Kind) (n : Note) (a : Forest) → may_have_effects [] anywhere (alone k n a) ≡ false → GivesAlone k a }
 {}
 
 /// A conditional on a test that is true comes to its first branch, wherever that stands bare, and on one that
