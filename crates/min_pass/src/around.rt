@@ -24,6 +24,8 @@ pub struct Around {
     pub row: Row,
     /// Whether a `with` statement stands around.
     pub in_with: bool,
+    /// Whether a class does.
+    pub in_class: bool,
     /// Whether it is asked what is known of names.
     pub knows_names: bool,
 }

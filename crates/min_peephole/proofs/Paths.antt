@@ -5,7 +5,7 @@ use Rattle.js_syntax.specs.Node.{Forest, Tree, Note, node, absent}
 use Rattle.min_pass.specs.declared.around.Around.{Around as Asked}
 use Rattle.min_pass.specs.declared.around.Row.{Row}
 use Rattle.min_pass.specs.declared.around.Row.TheVariants.{Other as other}
-use Rattle.min_pass.specs.Around.{row_below, is_with, outermost as asked_of_program}
+use Rattle.min_pass.specs.Around.{row_below, is_with, is_class, outermost as asked_of_program}
 use Rattle.scope_laws.specs.Place.{Around, first, behind as place_behind, behind_none as place_behind_none, under as place_under, placed, plug}
 use Rattle.scope_laws.specs.Lists.{without}
 use Rattle.steps.specs.Allowed.Edits.{Edit}
@@ -56,8 +56,14 @@ with_at (behind p k n below) = with_at p
 with_at (behind_none p) = with_at p
 with_at (under p k n rest) = with_at p || is_with k
 
+abbrev pub class_at : Path → Bool
+class_at top = false
+class_at (behind p k n below) = class_at p
+class_at (behind_none p) = class_at p
+class_at (under p k n rest) = class_at p || is_class k
+
 abbrev pub asked_along : (knows : Bool) → Path → Asked
-asked_along knows p = record { row = row_at p; in_with = with_at p; knows_names = knows }
+asked_along knows p = record { row = row_at p; in_with = with_at p; in_class = class_at p; knows_names = knows }
 
 pub asked_there : (p : Path) (a : Around) → asked_at (asked_of_program true) (around p a) ≡ asked_at (asked_along true p) a
 asked_there top a = refl
