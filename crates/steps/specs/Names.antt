@@ -7,7 +7,7 @@ use Rattle.js_syntax.specs.Node.{Forest, nothing, node, absent}
 use Rattle.js_syntax.specs.declared.operator.UnaryOperator.TheVariants as unary
 use Rattle.js_effects.specs.Still.{is_value}
 use Rattle.js_effects.specs.Silence.{is_one_name, runs_its_parts}
-use Rattle.js_meaning.specs.Value.{Text}
+use Rattle.js_meaning.specs.Value.{Text, this_name}
 use Rattle.js_meaning.specs.Scope.{waiting, named_so, first_of, bound_names, var_names, lexical, own_name, function_decls, module_decls}
 use Rattle.js_meaning.specs.Module.{names_in}
 
@@ -44,10 +44,11 @@ refers x (absent r) = refers x r
 refers x (node k n a r) = refers_at x k a (refers x a) || refers x r
 
 -- Whether an expression may do something where these names are declared: the forms are those of silence, and of names
--- those are silent that are declared, and `undefined`; `typeof` of any name is.
+-- those are silent that are declared, `this` among them, and `undefined`; `typeof` of any name is.
 abbrev pub is_named : List Text → Kind → (below : Forest) → Bool
 is_named names (Kind.ReferenceName x) a = is_among names x || bytes_eq x (codes "undefined")
 is_named names (Kind.UnaryExpression unary.Typeof) a = is_one_name a
+is_named names Kind.ThisExpression a = is_among names this_name
 is_named names k a = false
 
 abbrev pub acts_at : List Text → Kind → (below : Forest) → (parts : Bool) → Bool

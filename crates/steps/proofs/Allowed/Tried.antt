@@ -42,26 +42,26 @@ empties_alone = becomes consequent _ _ (silent_statement (silent_statement_empti
 pub leaves_then : Edit (a_module (empty ∷ [])) (a_module [])
 leaves_then = leaves (before []) _ (empty_statement (empty_statement_leaves nowhere refl))
 
-pub call_acts : At (before []) (a_node Kind.ExpressionStatement nowhere call_of_a) (SilentStatement (a_module (does call_of_a ∷ [])) call_of_a) → ⊥
+pub call_acts : At (before []) (a_node Kind.ExpressionStatement nowhere call_of_a) (SilentStatement (a_module (does call_of_a ∷ [])) call_of_a false) → ⊥
 call_acts (inl e, rest) = absurd (true≢false (sym e))
-call_acts (inr (inl (w, found)), rest) = absurd found
+call_acts (inr (inl found), rest) = absurd found
 call_acts (inr (inr (parts, below)), rest) = absurd (true≢false (sym parts))
 
-pub name_acts : At (before []) (a_node Kind.ExpressionStatement nowhere (reads a)) (SilentStatement (a_module (does (reads a) ∷ [])) (reads a)) → ⊥
+pub name_acts : At (before []) (a_node Kind.ExpressionStatement nowhere (reads a)) (SilentStatement (a_module (does (reads a) ∷ [])) (reads a) false) → ⊥
 name_acts (inl e, rest) = absurd (true≢false (sym e))
 name_acts (inr (inl (w, inl found)), rest) = absurd (true≢false (sym found))
 name_acts (inr (inl (w, inr named)), rest) = absurd (true≢false (sym named))
 name_acts (inr (inr (parts, below)), rest) = absurd (true≢false (sym parts))
 
-pub name_in_with : At in_with_a (a_node Kind.ExpressionStatement nowhere (reads a)) (SilentStatement (with_a (does (reads a))) (reads a)) → ⊥
+pub name_in_with : At in_with_a (a_node Kind.ExpressionStatement nowhere (reads a)) (SilentStatement (with_a (does (reads a))) (reads a) false) → ⊥
 name_in_with (inl e, rest) = absurd (true≢false (sym e))
 name_in_with (inr (inl (w, found)), rest) = absurd (true≢false w)
 name_in_with (inr (inr (parts, below)), rest) = absurd (true≢false (sym parts))
 
-pub read_in_with : At in_with_a (a_declaration variable.Let nowhere nowhere nowhere nowhere a (reads a)) (SilentDeclaration (with_a (declares variable.Let (binds a) (reads a))) variable.Let nowhere nowhere (joined (binds a) (reads a))) → ⊥
+pub read_in_with : At in_with_a (a_declaration variable.Let nowhere nowhere nowhere nowhere a (reads a)) (SilentDeclaration (with_a (declares variable.Let (binds a) (reads a))) variable.Let nowhere nowhere (joined (binds a) (reads a)) false) → ⊥
 read_in_with (given, silent) = absurd (true≢false given)
 
-pub given_in_with : At in_with_a (a_declaration variable.Var nowhere nowhere nowhere nowhere a one) (SilentDeclaration (with_a (declares variable.Var (binds a) one)) variable.Var nowhere nowhere (joined (binds a) one)) → ⊥
+pub given_in_with : At in_with_a (a_declaration variable.Var nowhere nowhere nowhere nowhere a one) (SilentDeclaration (with_a (declares variable.Var (binds a) one)) variable.Var nowhere nowhere (joined (binds a) one) false) → ⊥
 given_in_with (given, silent) = absurd (true≢false given)
 
 pub variable_goes : Edit (a_module (let_ a ∷ [])) (a_module [])

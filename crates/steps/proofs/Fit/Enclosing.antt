@@ -2,14 +2,14 @@
 use Rattle.std.proofs.Common.{◌≡◌, ℕ, suc, List, ◌∷◌, Bool, true, false, not, ◌&&◌, refl, ap, ◌∙◌}
 use Rattle.js_syntax.specs.Class.{Class, root, declared_name, no_node}
 use Rattle.js_syntax.specs.declared.node_kind.NodeKind.{NodeKind as Kind}
-use Rattle.js_syntax.specs.declared.node_kind.NodeKind.TheVariants.{Function as function, Class as class, ReferenceName as reference_name, Literal as literal, RegExp as reg_exp, NewTarget as new_target, Hole as hole, TemplateElement as template_element}
+use Rattle.js_syntax.specs.declared.node_kind.NodeKind.TheVariants.{Function as function, Class as class, ReferenceName as reference_name, Literal as literal, RegExp as reg_exp, ThisExpression as this_expression, NewTarget as new_target, Hole as hole, TemplateElement as template_element}
 use Rattle.js_syntax.specs.declared.kind.FunctionKind.{FunctionKind}
 use Rattle.js_syntax.specs.declared.kind.FunctionKind.TheVariants as function_kind
 use Rattle.js_syntax.specs.declared.kind.ClassKind.{ClassKind}
 use Rattle.js_syntax.specs.declared.kind.ClassKind.TheVariants as class_kind
 use Rattle.js_syntax.specs.Hint.{has, is_private}
 use Rattle.js_syntax.specs.Node.{Forest, nothing, node, absent}
-use Rattle.js_syntax.specs.Table.{Row, a_function_declaration, a_default_function, a_function_expression, an_arrow_function, a_class_declaration, a_default_class, a_class_expression, a_binding_name, a_reference_name, a_literal, a_text_literal, a_reg_exp, a_template_element, a_new_target, fields_of}
+use Rattle.js_syntax.specs.Table.{Row, a_function_declaration, a_default_function, a_function_expression, an_arrow_function, a_class_declaration, a_default_class, a_class_expression, a_binding_name, a_reference_name, a_literal, a_text_literal, a_reg_exp, a_this_expression, a_template_element, a_new_target, fields_of}
 use Rattle.json_shape.specs.Shape.{Values, kind_in, first_of, Place, one, maybe_one, places, these, IsOf, Stand, Fits, Plan}
 use Rattle.json_shape.proofs.Choice.{is_list_kind}
 use Rattle.steps.proofs.Fit.CoreRows.{takes_such, taken}
@@ -96,6 +96,7 @@ row_enclosed a_literal vs private a st = none_there a st
 row_enclosed a_text_literal vs private a st = none_there a st
 row_enclosed a_reg_exp vs private a st = none_there a st
 row_enclosed a_template_element vs private a st = none_there a st
+row_enclosed a_this_expression vs private a st = none_there a st
 row_enclosed a_new_target vs private a st = none_there a st
 row_enclosed r vs private a st = refl
 
@@ -104,6 +105,7 @@ list_enclosed (function how pure) a h = absurd cc
 list_enclosed (class how) a h = absurd cc
 list_enclosed (literal v) a h = absurd cc
 list_enclosed (reg_exp x) a h = absurd cc
+list_enclosed this_expression a h = absurd cc
 list_enclosed new_target a h = absurd cc
 list_enclosed hole a h = absurd cc
 list_enclosed (template_element written tail) a h = absurd cc

@@ -30,7 +30,7 @@ use Rattle.steps.proofs.Marked.Numbered.{marked_told}
 use Rattle.steps.specs.Naming.Standing.{is_export, exported_declarations}
 use Rattle.steps.proofs.Naming.Sites.{InThree, in_first, in_second, in_third, binding_in, binding_left, binding_second, binding_third}
 use Rattle.steps.specs.Allowed.Silent.{HoldsThere}
-use Rattle.steps.specs.Allowed.Places.{IsItem, IsDeclarator, has_other, At}
+use Rattle.steps.specs.Allowed.Places.{in_class_at, IsItem, IsDeclarator, has_other, At}
 use Rattle.steps.specs.Allowed.Free.{IsFree, Free, FreeDeclarator}
 use Rattle.steps.specs.Allowed.UnusedFunction.{a_function, unused_function_leaves}
 use Rattle.steps.specs.Allowed.UnusedDeclarator.{SilentDeclarator, a_declarator, unused_declarator_leaves}
@@ -133,7 +133,7 @@ module _ (s : Scoping) (marked exported : ℕ → Bool) (a : Around) where
       free s marked exported v h symbol unused d (all d (binding_second d (own_sites (cs place) n (function function_kind.Declaration pure) below) (sites fs 0 (next + 1) below) [] (inl refl))) is))))
 
   pub declarator_leaves : (n m : Note) (x : List ℕ) (value : Forest) → IsTold s marked exported (plug a (a_declarator n m x value)) → IsDeclarator a → has_other false a ≡ true
-      → At a (a_declarator n m x value) (SilentDeclarator (plug a (a_declarator n m x value)) (node (binding_name x) m nothing value)) → (symbol : ℕ) → m.id ≡ Some symbol → IsUnused s marked exported symbol
+      → At a (a_declarator n m x value) (SilentDeclarator (plug a (a_declarator n m x value)) (node (binding_name x) m nothing value) (in_class_at a)) → (symbol : ℕ) → m.id ≡ Some symbol → IsUnused s marked exported symbol
       → (scope : ℕ) → (stand a (a_declarator n m x value)).declaring ≡ Some scope → is_script (plug a (a_declarator n m x value)) && scope == 0 ≡ false → evaluates_somewhere (plug a (a_declarator n m x value)) ≡ false
       → Edit (plug a (a_declarator n m x value)) (without a)
   declarator_leaves n m x value h declarator other silent symbol is unused scope here own evaluates =
@@ -148,7 +148,7 @@ module _ (s : Scoping) (marked exported : ℕ → Bool) (a : Around) where
       free s marked exported v h symbol unused d (all d (binding_second d (own_sites (cs place) n variable_declarator below) (sites fs 0 (next + 0) below) [] (inl refl))) is))))
 
   pub declaration_leaves : (how : VariableKind) (n m l j : Note) (x : List ℕ) (value : Forest) → IsTold s marked exported (plug a (a_declaration how n m l j x value)) → IsItem a
-      → At a (a_declaration how n m l j x value) (SilentDeclaration (plug a (a_declaration how n m l j x value)) how m l (node (binding_name x) j nothing value)) → (symbol : ℕ) → j.id ≡ Some symbol → IsUnused s marked exported symbol
+      → At a (a_declaration how n m l j x value) (SilentDeclaration (plug a (a_declaration how n m l j x value)) how m l (node (binding_name x) j nothing value) (in_class_at a)) → (symbol : ℕ) → j.id ≡ Some symbol → IsUnused s marked exported symbol
       → (scope : ℕ) → declares_in (stand a (a_declaration how n m l j x value)) how ≡ Some scope → is_script (plug a (a_declaration how n m l j x value)) && scope == 0 ≡ false
       → evaluates_somewhere (plug a (a_declaration how n m l j x value)) ≡ false → Edit (plug a (a_declaration how n m l j x value)) (without a)
   declaration_leaves how n m l j x value h item silent symbol is unused scope here own evaluates =

@@ -15,7 +15,8 @@ use Rattle.steps.specs.Steps as steps
 use Rattle.steps.specs.Steps.{Row, items, declarators, Around, is_used, Initialiser, Step}
 use Rattle.steps.specs.Fit.Clear.{Apart}
 use Rattle.steps.specs.Allowed.Arranged.{is_leaf, is_field, is_declarator, are_declarators}
-use Rattle.steps.specs.Allowed.Places.{a_node, At, IsItem, IsDeclarator, has_other}
+use Rattle.steps.specs.Allowed.Places.{a_node, in_class_at, At, IsItem, IsDeclarator, has_other}
+use Rattle.steps.specs.Allowed.Silent.{inside_of}
 use Rattle.steps.specs.Allowed.Free.{IsFree, Free, FreeDeclarator}
 use Rattle.steps.specs.Allowed.SilentStatement.{a_statement, SilentStatement}
 use Rattle.steps.specs.Allowed.UnusedFunction.{a_function}
@@ -78,14 +79,14 @@ module _ (a : Place) where
 
   -- a statement becomes empty
   pub statement_step : (n m l : Note) (k : Kind) (inner : Forest) → is_well_placed (plug a (a_statement n l k inner)) ≡ true → Good (plug a (a_statement n l k inner))
-      → At a (a_statement n l k inner) (SilentStatement (plug a (a_statement n l k inner)) (alone k l inner)) → Step steps.outermost (plug a (a_statement n l k inner)) (plug a (a_node Kind.EmptyStatement m nothing))
+      → At a (a_statement n l k inner) (SilentStatement (plug a (a_statement n l k inner)) (alone k l inner) (in_class_at a)) → Step steps.outermost (plug a (a_statement n l k inner)) (plug a (a_node Kind.EmptyStatement m nothing))
   statement_step n m l k inner w good silent =
       let expression = alone k l inner in
       let x : Tree = record { kind = Kind.ExpressionStatement; note = n; below = expression } in
       let t = plug a (Some x) in
-      let f = focused x (SilentStatement t expression) a refl w good silent in
+      let f = focused x (SilentStatement t expression (in_class_at a)) a refl w good silent in
       f.keeps (record { kind = Kind.EmptyStatement; note = m; below = nothing }) (steps.empties (record {
-        silent = silent_row (declarations_of t) f.around.names f.in_with (inside (f.contexts f.at) f.next Kind.ExpressionStatement expression) 0 (f.next + opens_one Kind.ExpressionStatement expression) expression (λ i. f.here.known.0) f.there;
+        silent = silent_row (declarations_of t) f.around.names f.here.this (inside_of (in_class_at a) f.in_with) (inside (f.contexts f.at) f.next Kind.ExpressionStatement expression) 0 (f.next + opens_one Kind.ExpressionStatement expression) expression (λ i. f.here.known.0) f.there;
         declares = no_names (bound_names expression) (plain_statement_here Kind.ExpressionStatement n expression f.rest f.here.good);
       }))
 
@@ -105,13 +106,13 @@ module _ (a : Place) where
 
   -- a declarator leaves the others
   pub declarator_step : (n m : Note) (x : Text) (value : Forest) → is_well_placed (plug a (a_declarator n m x value)) ≡ true → Good (plug a (a_declarator n m x value)) → IsDeclarator a → has_other false a ≡ true
-      → At a (a_declarator n m x value) (SilentDeclarator (plug a (a_declarator n m x value)) (node (Kind.BindingName x) m nothing value)) → At a (a_declarator n m x value) (FreeDeclarator (plug a (a_declarator n m x value)) x)
+      → At a (a_declarator n m x value) (SilentDeclarator (plug a (a_declarator n m x value)) (node (Kind.BindingName x) m nothing value) (in_class_at a)) → At a (a_declarator n m x value) (FreeDeclarator (plug a (a_declarator n m x value)) x)
       → Step steps.outermost (plug a (a_declarator n m x value)) (without a)
   declarator_step n m x value w good item others silent free =
       let inner = node (Kind.BindingName x) m nothing value in
       let y : Tree = record { kind = Kind.VariableDeclarator; note = n; below = inner } in
       let t = plug a (Some y) in
-      let f = focused y (λ b c i. SilentDeclarator t inner b c i × FreeDeclarator t x b c i) a refl w good (both_there (SilentDeclarator t inner) (FreeDeclarator t x) (Some y) a false (λ i. outermost_context) 0 0 silent free) in
+      let f = focused y (λ b c i. SilentDeclarator t inner (in_class_at a) b c i × FreeDeclarator t x b c i) a refl w good (both_there (SilentDeclarator t inner (in_class_at a)) (FreeDeclarator t x) (Some y) a false (λ i. outermost_context) 0 0 silent free) in
       let c = f.contexts f.at in
       let row = node Kind.VariableDeclarator n inner f.rest in
       let d = f.declarator item others in
@@ -124,12 +125,12 @@ module _ (a : Place) where
         is_not_exported = unused.unexported;
         is_seen = crossed_not f.around d.how x (bound_names row) (first_among x (bound_names value ++ bound_names f.rest)) apart.0;
       }))
-      (initialiser (declarations_of t) f.around.names f.in_with (inside c f.next Kind.VariableDeclarator inner) 1 (f.next + opens_one Kind.VariableDeclarator inner + scope_count (node (Kind.BindingName x) m nothing nothing)) value (λ i. f.here.known.0)
+      (initialiser (declarations_of t) f.around.names f.here.this (inside_of (in_class_at a) f.in_with) (inside c f.next Kind.VariableDeclarator inner) 1 (f.next + opens_one Kind.VariableDeclarator inner + scope_count (node (Kind.BindingName x) m nothing nothing)) value (λ i. f.here.known.0)
       (field_behind (Kind.BindingName x) value (and_parts (is_declarator Kind.VariableDeclarator inner) (are_declarators f.rest) apart.1).0) (plain_value_here Kind.VariableDeclarator n inner f.rest f.here.good) f.there.0.1))
 
   -- a declaration leaves
   pub declaration_step : (how : VariableKind) (n m l j : Note) (x : Text) (value : Forest) → is_well_placed (plug a (a_declaration how n m l j x value)) ≡ true → Good (plug a (a_declaration how n m l j x value)) → IsItem a
-      → At a (a_declaration how n m l j x value) (SilentDeclaration (plug a (a_declaration how n m l j x value)) how m l (node (Kind.BindingName x) j nothing value))
+      → At a (a_declaration how n m l j x value) (SilentDeclaration (plug a (a_declaration how n m l j x value)) how m l (node (Kind.BindingName x) j nothing value) (in_class_at a))
       → At a (a_declaration how n m l j x value) (Free (plug a (a_declaration how n m l j x value)) how x) → Step steps.outermost (plug a (a_declaration how n m l j x value)) (without a)
   declaration_step how n m l j x value w good item silent free =
       let inner = node (Kind.BindingName x) j nothing value in
@@ -137,7 +138,7 @@ module _ (a : Place) where
       let all = one_declarator m l inner in
       let y : Tree = record { kind = Kind.VariableDeclaration how; note = n; below = all } in
       let t = plug a (Some y) in
-      let f = focused y (λ b c i. SilentDeclaration t how m l inner b c i × Free t how x b c i) a refl w good (both_there (SilentDeclaration t how m l inner) (Free t how x) (Some y) a false (λ i. outermost_context) 0 0 silent free) in
+      let f = focused y (λ b c i. SilentDeclaration t how m l inner (in_class_at a) b c i × Free t how x b c i) a refl w good (both_there (SilentDeclaration t how m l inner (in_class_at a)) (Free t how x) (Some y) a false (λ i. outermost_context) 0 0 silent free) in
       let c = f.contexts f.at in
       let place = f.next + opens_one (Kind.VariableDeclaration how) all in
       let e = inside (in_variables c how) place Kind.Declarators ds 0 in
@@ -150,7 +151,7 @@ module _ (a : Place) where
         is_not_exported = f.there.1.unexported;
         is_seen = declaration_seen f.around how x n all f.rest (first_among x (((bound_names value) ++ []) ++ [])) f.here.variables (of_list f.around.row f.around row (f.item item) f.here.apart);
       }))
-      (initialiser (declarations_of t) f.around.names f.in_with (inside e (place + opens_one Kind.Declarators ds) Kind.VariableDeclarator inner) 1
+      (initialiser (declarations_of t) f.around.names f.here.this (inside_of (in_class_at a) f.in_with) (inside e (place + opens_one Kind.Declarators ds) Kind.VariableDeclarator inner) 1
       (place + opens_one Kind.Declarators ds + opens_one Kind.VariableDeclarator inner + scope_count (node (Kind.BindingName x) j nothing nothing)) value (λ i. variables_known (declarations_of t) f.around.names c how f.here.known.0)
       (field_behind (Kind.BindingName x) value (and_parts (is_declarator Kind.VariableDeclarator inner) true (arranged_here (Kind.VariableDeclaration how) n all f.rest f.here.good)).0) (plain_value_here Kind.VariableDeclarator l inner nothing in_list) f.there.0.1))
 

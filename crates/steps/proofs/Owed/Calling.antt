@@ -7,6 +7,7 @@ use Rattle.min_pass.specs.declared.around.Around.{Around as Asked}
 use Rattle.min_pass.specs.declared.around.Row.{Row}
 use Rattle.min_pass.specs.declared.around.Row.TheVariants.{Items as items, Declarators as item_declarators}
 use Rattle.min_pass.specs.Around.{entered as asked_below, outermost as asked_of_program, is_with}
+use Rattle.js_effects.specs.declared.surroundings.Surroundings.{Surroundings}
 use Rattle.scope_rules.specs.Context.{Context, inside}
 use Rattle.scope_rules.specs.Site.{BindingSite, opens_one, scope_count}
 use Rattle.scope_laws.specs.Place.{Around, first, behind, behind_none, under, plug}
@@ -220,12 +221,12 @@ leave_root (under k n a rest) x u row = leave_program k a x (uncounted_below k n
 
 -- ---- no call is silent
 
-call_acts : (bs : List BindingSite) (w : Bool) (c : Context) (next : ℕ) (pure optional : Bool) (l : Note) (inner : Forest) → IsSilentBelow bs w c next expression_statement (alone (call_expression pure optional) l inner) → ⊥
+call_acts : (bs : List BindingSite) (w : Surroundings) (c : Context) (next : ℕ) (pure optional : Bool) (l : Note) (inner : Forest) → IsSilentBelow bs w c next expression_statement (alone (call_expression pure optional) l inner) → ⊥
 call_acts bs w c next pure optional l inner (inl e, rest) = absurd (true≢false (sym e))
-call_acts bs w c next pure optional l inner (inr (inl (v, found)), rest) = absurd found
+call_acts bs w c next pure optional l inner (inr (inl found), rest) = absurd found
 call_acts bs w c next pure optional l inner (inr (inr (parts, below)), rest) = absurd (true≢false (sym parts))
 
-pub silent_is_no_call : (bs : List BindingSite) (w : Bool) (c : Context) (next : ℕ) (k : Kind) (l : Note) (inner : Forest) → IsSilentBelow bs w c next expression_statement (alone k l inner) → is_call k ≡ false
+pub silent_is_no_call : (bs : List BindingSite) (w : Surroundings) (c : Context) (next : ℕ) (k : Kind) (l : Note) (inner : Forest) → IsSilentBelow bs w c next expression_statement (alone k l inner) → is_call k ≡ false
 silent_is_no_call bs w c next (call_expression pure optional) l inner h = absurd (call_acts bs w c next pure optional l inner h)
 silent_is_no_call bs w c next k l inner h = refl
 

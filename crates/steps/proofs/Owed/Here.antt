@@ -4,8 +4,9 @@ use Rattle.std.proofs.lemmas.Bool.{and_parts}
 use Rattle.js_syntax.specs.declared.node_kind.NodeKind.{NodeKind as Kind}
 use Rattle.js_syntax.specs.declared.scalar.SourceType.{SourceType}
 use Rattle.js_syntax.specs.Node.{Forest, nothing, node, absent, Note}
+use Rattle.js_meaning.specs.Value.{this_name}
 use Rattle.js_meaning.specs.Scope.{var_names, item_decls, vars_of, lexical}
-use Rattle.steps.specs.Names.{names_declared}
+use Rattle.steps.specs.Names.{is_among, names_declared}
 use Rattle.steps.specs.Steps.{Around, entered, outermost}
 use Rattle.steps.specs.Fit.Clear.{Apart}
 use Rattle.steps.specs.Allowed.Arranged.{is_arranged_at, is_arranged}
@@ -22,7 +23,7 @@ use Rattle.steps.specs.Fit.Plain.{is_plain_statement, has_plain_statements}
 use Rattle.steps.specs.Fit.Sensible.{IsSensibleModule}
 use Rattle.steps.specs.Owed.Good.{Good}
 use Rattle.steps.proofs.Owed.ItemRows.{Rows, rows_below, rows_program}
-use Rattle.steps.proofs.Owed.KnownNames.{none_known, scope_known, AllKnown, all_known, known_below}
+use Rattle.steps.proofs.Owed.KnownNames.{none_known, scope_known, names_below, AllKnown, all_known, known_below}
 use Rattle.steps.proofs.Owed.Separate.{variables_below, ListApart, leads, statements_lead, lists_below, RowApart, apart_absent, apart_behind, apart_below}
 use Rattle.steps.proofs.Naming.Unused.{entered_row}
 
@@ -65,6 +66,7 @@ pub record Here (t : Forest) (w : Around) (cs : ℕ → Context) (at next : ℕ)
   pub rows : Rows places w
   pub agreed : Agrees (declarations_of t) next row
   pub known : AllKnown (declarations_of t) w cs at row
+  pub this : is_among w.names this_name ≡ true
   -- no scope further in than the function declares a name of `var` that stands here
   pub variables : Apart (var_names row) w.inner
   pub lists : (i : ℕ) → leads (places i) ≡ true → ListApart w row
@@ -83,6 +85,7 @@ here_program source n a w good = record {
   agreed = agreed.1;
   known = all_known (declarations_of t) (entered outermost (Kind.Program source) a) (inside outermost_context 0 (Kind.Program source) a) 0 a
       (λ i. scope_known (declarations_of t) (names_declared (Kind.Program source) a) [] 0 [] (λ x d. agreed.0 refl (body_of 0) x refl d) (none_known (declarations_of t) []));
+  this = refl;
   variables = λ x e f. true≢false (sym f);
   lists = λ i l x e f. true≢false (sym f);
   apart = tt;
@@ -105,6 +108,7 @@ here_below t w cs at next k n a r h = record {
   rows = rows_below (h.places at) w k a;
   agreed = h.agreed.1;
   known = known_below (declarations_of t) w (h.places at) (cs at) next k a placed inner h.agreed.0 h.known.0;
+  this = names_below w k a this_name h.this;
   variables = variables_below w (h.places at) k n a r placed inner (good_below k n a r h.good).values h.good.clear.0 h.variables;
   lists = λ i l. lists_below w (h.places at) k n a r i placed h.good.clear.0 (h.lists at) l;
   apart = subst (λ row. RowApart row (entered w k a) a) (sym (entered_row w k a))
@@ -127,6 +131,7 @@ here_behind t w cs at next k n a r h = record {
   rows = h.rows;
   agreed = h.agreed.2;
   known = h.known.1;
+  this = h.this;
   variables = λ x e. h.variables x (in_right (vars_of k a (var_names a)) (var_names r) x e);
   lists = λ i l x e. h.lists i l x (declared_right (item_decls k a (lexical a)) (lexical r) x e);
   apart = apart_behind w.row w k n a r h.apart;
@@ -141,6 +146,7 @@ here_absent t w cs at next r h = record {
   rows = h.rows;
   agreed = h.agreed;
   known = h.known;
+  this = h.this;
   variables = h.variables;
   lists = h.lists;
   apart = apart_absent w.row w r h.apart;

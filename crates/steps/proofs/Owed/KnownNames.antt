@@ -37,6 +37,16 @@ all_before_none ds x e = elim (among_cases (names_in ds) [] x (ap (λ xs. is_amo
   | inr h ↦ absurd (true≢false (sym h))
 ]
 
+-- names around a node are names around what lies below it
+pub names_below : (w : Around) (k : Kind) (a : Forest) (x : Text) → is_among w.names x ≡ true → is_among (entered w k a).names x ≡ true
+names_below w (Kind.Program source) a x h = in_right (names_declared (Kind.Program source) a) w.names x h
+names_below w (Kind.Function f pure) a x h = in_right (names_declared (Kind.Function f pure) a) w.names x h
+names_below w Kind.BlockStatement a x h = in_right (names_declared Kind.BlockStatement a) w.names x h
+names_below w Kind.Cases a x h = in_right (names_declared Kind.Cases a) w.names x h
+names_below w Kind.ForStatement a x h = in_right (names_declared Kind.ForStatement a) w.names x h
+names_below w Kind.CatchClause a x h = in_right (names_declared Kind.CatchClause a) w.names x h
+names_below w k a x h = h
+
 -- ---- what is bound in some layers is among the names
 
 abbrev pub Known : List BindingSite → List Text → List Layer → Type 0

@@ -3,7 +3,7 @@ use Rattle.std.proofs.Common.{◌≡◌, inl, inr, ℕ, suc, ◌+◌, Bool, true
 use Rattle.std.proofs.lemmas.Bool.{or_left, or_right}
 use Rattle.js_syntax.specs.declared.node_kind.NodeKind.{NodeKind as Kind}
 use Rattle.js_syntax.specs.Node.{Forest, nothing, node, absent, Note, alone}
-use Rattle.js_meaning.specs.Value.{Text}
+use Rattle.js_meaning.specs.Value.{Text, this_name}
 use Rattle.js_meaning.specs.Scope.{bound_names}
 use Rattle.steps.specs.Names.{is_among, is_named, acts_at, may_act}
 use Rattle.steps.specs.Steps.{Initialiser, no_initialiser, silent_initialiser}
@@ -14,6 +14,7 @@ use Rattle.scope_rules.specs.Context.{Context, inside}
 use Rattle.scope_rules.specs.Site.{BindingSite, opens_one, scope_count}
 use Rattle.scope_rules.specs.Binding.{named_in, binding_layer}
 use Rattle.js_syntax.specs.declared.operator.UnaryOperator.TheVariants as unary
+use Rattle.js_effects.specs.declared.surroundings.Surroundings.{Surroundings}
 use Rattle.js_effects.specs.Still.{is_value}
 use Rattle.js_effects.specs.Silence.{runs_its_parts}
 use Rattle.steps.specs.Naming.Placed.{is_none}
@@ -66,19 +67,20 @@ was_some : (x : Text) (o : Option Layer) → is_some (option_map (named_in x) o)
 was_some x None e = absurd (true≢false (sym e))
 was_some x (Some l) e = refl
 
-module _ (bs : List BindingSite) (names : List Text) where
-  found_named : (c : Context) (k : Kind) (n : Note) (a : Forest) → Known bs names c.layers → IsFound bs c k n a → is_named names k a ≡ true
-  found_named c (Kind.ReferenceName x) n a h (inl e) = or_left (is_among names x) (bytes_eq x (codes "undefined")) (h x (was_some x (binding_layer bs c.layers x) e))
-  found_named c (Kind.ReferenceName x) n a h (inr e) = or_right (is_among names x) (bytes_eq x (codes "undefined")) e
-  found_named c (Kind.UnaryExpression unary.Typeof) n a h e = e
-  found_named c k n a h e = absurd e
+module _ (bs : List BindingSite) (names : List Text) (this : is_among names this_name ≡ true) where
+  found_named : (w : Surroundings) (c : Context) (k : Kind) (n : Note) (a : Forest) → Known bs names c.layers → IsFound bs w c k n a → is_named names k a ≡ true
+  found_named w c (Kind.ReferenceName x) n a h (outside, inl e) = or_left (is_among names x) (bytes_eq x (codes "undefined")) (h x (was_some x (binding_layer bs c.layers x) e))
+  found_named w c (Kind.ReferenceName x) n a h (outside, inr e) = or_right (is_among names x) (bytes_eq x (codes "undefined")) e
+  found_named w c (Kind.UnaryExpression unary.Typeof) n a h e = e.1
+  found_named w c Kind.ThisExpression n a h e = this
+  found_named w c k n a h e = absurd e
 
-  silent_node : (w : Bool) (c : Context) (k : Kind) (n : Note) (a : Forest) (parts : Type 0) → Known bs names c.layers → (runs_its_parts k a ≡ true → parts → may_act names a ≡ false) → IsSilentNode bs w c k n a parts → acts_at names k a (may_act names a) ≡ false
+  silent_node : (w : Surroundings) (c : Context) (k : Kind) (n : Note) (a : Forest) (parts : Type 0) → Known bs names c.layers → (runs_its_parts k a ≡ true → parts → may_act names a ≡ false) → IsSilentNode bs w c k n a parts → acts_at names k a (may_act names a) ≡ false
   silent_node w c k n a parts h below (inl e) = idle_value (is_value k) (is_named names k a) (runs_its_parts k a) (may_act names a) e
-  silent_node w c k n a parts h below (inr (inl e)) = idle_name (is_value k) (is_named names k a) (runs_its_parts k a) (may_act names a) (found_named c k n a h e.1)
+  silent_node w c k n a parts h below (inr (inl e)) = idle_name (is_value k) (is_named names k a) (runs_its_parts k a) (may_act names a) (found_named w c k n a h e)
   silent_node w c k n a parts h below (inr (inr e)) = idle_parts (is_value k) (is_named names k a) (runs_its_parts k a) (may_act names a) e.0 (below e.0 e.1)
 
-  pub silent_row : (w : Bool) (cs : ℕ → Context) (at next : ℕ) (row : Forest) → ((i : ℕ) → Known bs names (cs i).layers) → IsSilent bs w cs at next row → may_act names row ≡ false
+  pub silent_row : (w : Surroundings) (cs : ℕ → Context) (at next : ℕ) (row : Forest) → ((i : ℕ) → Known bs names (cs i).layers) → IsSilent bs w cs at next row → may_act names row ≡ false
   silent_row w cs at next nothing h s = refl
   silent_row w cs at next (absent r) h s = silent_row w cs (suc at) next r h s
   silent_row w cs at next (node k n a r) h s =
@@ -90,7 +92,7 @@ module _ (bs : List BindingSite) (names : List Text) where
 
   -- ---- initialisers
 
-  pub initialiser : (w : Bool) (cs : ℕ → Context) (at next : ℕ) (value : Forest) → ((i : ℕ) → Known bs names (cs i).layers) → is_field value ≡ true → is_none (bound_names value) ≡ true → IsSilent bs w cs at next value → Initialiser names value
+  pub initialiser : (w : Surroundings) (cs : ℕ → Context) (at next : ℕ) (value : Forest) → ((i : ℕ) → Known bs names (cs i).layers) → is_field value ≡ true → is_none (bound_names value) ≡ true → IsSilent bs w cs at next value → Initialiser names value
   initialiser w cs at next (absent nothing) h f e s = no_initialiser
   initialiser w cs at next (node k n a nothing) h f e s = silent_initialiser (record { silent = silent_row w cs at next (alone k n a) h s; declares = no_names (bound_names (alone k n a)) e })
   initialiser w cs at next nothing h f e s = absurd (true≢false (sym f))

@@ -1,9 +1,10 @@
 -- A silent expression declares nothing that is sought around it.
-use Rattle.std.proofs.Common.{◌≡◌, ◌∙◌, inl, inr, ℕ, suc, ◌+◌, Bool, false, List, [], ◌++◌, refl, true≢false, sym}
+use Rattle.std.proofs.Common.{◌≡◌, ◌∙◌, inl, inr, ℕ, suc, ◌+◌, false, List, [], ◌++◌, refl, true≢false, sym}
 use Rattle.js_syntax.specs.declared.node_kind.NodeKind.{NodeKind as Kind}
 use Rattle.js_syntax.specs.declared.node_kind.NodeKind.TheVariants.{BindingName as binding_name, Declarators as declarators, VariableDeclarator as variable_declarator, Parameters as parameters, BindingRest as binding_rest, BindingObject as binding_object, BindingArray as binding_array, BindingProperty as binding_property, BindingDefault as binding_default, Properties as properties, Elements as elements, Specifiers as specifiers, ImportSpecifier as import_specifier, ImportDefaultSpecifier as import_default_specifier, ImportNamespaceSpecifier as import_namespace_specifier}
 use Rattle.js_syntax.specs.Node.{Note, Forest, nothing, node, absent, alone}
 use Rattle.js_tree.specs.Count.{one_each, node_count}
+use Rattle.js_effects.specs.declared.surroundings.Surroundings.{Surroundings}
 use Rattle.js_effects.specs.Still.{is_value}
 use Rattle.js_effects.specs.Silence.{runs_its_parts}
 use Rattle.form_rules.specs.declared.sought.Sort.{Sort}
@@ -15,15 +16,15 @@ use Rattle.steps.specs.Allowed.Silent.{IsFound, IsSilentNode, IsSilent}
 use Rattle.steps.proofs.KeepForm.ShedNames.{none_declared}
 use Rattle.steps.proofs.KeepForm.Rules.{both_empty}
 
-module _ (f : Sort) (bs : List BindingSite) (w : Bool) where
-  acts : (c : Context) (k : Kind) (n : Note) (a : Forest) (parts : Type 0) → is_value k ≡ false → runs_its_parts k a ≡ false → (IsFound bs c k n a → ⊥) → IsSilentNode bs w c k n a parts → ⊥
+module _ (f : Sort) (bs : List BindingSite) (w : Surroundings) where
+  acts : (c : Context) (k : Kind) (n : Note) (a : Forest) (parts : Type 0) → is_value k ≡ false → runs_its_parts k a ≡ false → (IsFound bs w c k n a → ⊥) → IsSilentNode bs w c k n a parts → ⊥
   acts c k n a parts value runs found (inl h) = true≢false (sym h ∙ value)
-  acts c k n a parts value runs found (inr (inl h)) = found h.1
+  acts c k n a parts value runs found (inr (inl h)) = found h
   acts c k n a parts value runs found (inr (inr h)) = true≢false (sym h.0 ∙ runs)
 
-  its_parts : (c : Context) (k : Kind) (n : Note) (a : Forest) (parts : Type 0) → is_value k ≡ false → (IsFound bs c k n a → ⊥) → IsSilentNode bs w c k n a parts → parts
+  its_parts : (c : Context) (k : Kind) (n : Note) (a : Forest) (parts : Type 0) → is_value k ≡ false → (IsFound bs w c k n a → ⊥) → IsSilentNode bs w c k n a parts → parts
   its_parts c k n a parts value found (inl h) = absurd (true≢false (sym h ∙ value))
-  its_parts c k n a parts value found (inr (inl h)) = absurd (found h.1)
+  its_parts c k n a parts value found (inr (inl h)) = absurd (found h)
   its_parts c k n a parts value found (inr (inr h)) = h.1
 
   node_silent : (c : Context) (k : Kind) (n : Note) (a : Forest) (p q : ℕ) (parts : Type 0) → (parts → declared (bound f) q a ≡ []) → IsSilentNode bs w c k n a parts → declared_here (bound f) p k ++ declared (sought_below (bound f) k) q a ≡ []

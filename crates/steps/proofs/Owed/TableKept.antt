@@ -11,7 +11,7 @@ use Rattle.scope_rules.specs.Table.{Scoping}
 use Rattle.scope_laws.specs.Place.{Around, first, behind, behind_none, under, plug}
 use Rattle.scope_laws.specs.Lists.{is_list, is_listed, without}
 use Rattle.steps.specs.Allowed.Imports.{ImportRow, elsewhere, import_row_below, import_row}
-use Rattle.steps.specs.Allowed.Places.{a_node, asked_at, At}
+use Rattle.steps.specs.Allowed.Places.{a_node, asked_at, in_class_at, At}
 use Rattle.steps.specs.Allowed.SilentStatement.{a_statement, SilentStatement}
 use Rattle.steps.specs.Fit.Enclosed.{is_enclosed}
 use Rattle.steps.specs.Owed.Kept.{is_program, IsKept}
@@ -73,7 +73,7 @@ leaving_keeps a x owed e w s kept =
       | inr none ↦ idle_leaves a x none e (in_list a owed.listed) s kept
     ]
 
-pub emptied_keeps : (a : Around) (n m l : Note) (k : Kind) (inner : Forest) → At a (a_statement n l k inner) (SilentStatement (plug a (a_statement n l k inner)) (alone k l inner)) → is_program (plug a (a_statement n l k inner)) ≡ true
+pub emptied_keeps : (a : Around) (n m l : Note) (k : Kind) (inner : Forest) → At a (a_statement n l k inner) (SilentStatement (plug a (a_statement n l k inner)) (alone k l inner) (in_class_at a)) → is_program (plug a (a_statement n l k inner)) ≡ true
     → is_enclosed (plug a (a_statement n l k inner)) ≡ true → (s : Scoping) → IsKept s (plug a (a_statement n l k inner)) → IsKept s (plug a (a_node empty_statement m nothing))
 emptied_keeps a n m l k inner silent e w s kept =
     let x : Tree = record { kind = expression_statement; note = n; below = alone k l inner } in

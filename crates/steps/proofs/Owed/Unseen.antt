@@ -8,6 +8,7 @@ use Rattle.js_syntax.specs.declared.kind.VariableKind.TheVariants as variable
 use Rattle.js_syntax.specs.Node.{Forest, Tree, Note, nothing, node, absent, alone}
 use Rattle.js_syntax.specs.declared.operator.UnaryOperator.TheVariants as unary
 use Rattle.js_syntax.proofs.Truth.{both}
+use Rattle.js_effects.specs.declared.surroundings.Surroundings.{Surroundings}
 use Rattle.js_effects.specs.Still.{is_value}
 use Rattle.js_effects.specs.Silence.{is_one_name}
 use Rattle.min_pass.specs.Around.{is_with}
@@ -19,8 +20,8 @@ use Rattle.scope_laws.specs.Exact.{Among}
 use Rattle.scope_laws.specs.Place.{Around, first, behind, behind_none, under, one_place, plug, there, scopes_before}
 use Rattle.steps.specs.Naming.Standing.{layer_of}
 use Rattle.steps.proofs.Naming.Sites.{InThree, in_first, in_second, in_third, binding_in}
-use Rattle.steps.specs.Allowed.Silent.{IsFound, IsSilentNode, IsSilent, HoldsThere}
-use Rattle.steps.specs.Allowed.Places.{a_node, At}
+use Rattle.steps.specs.Allowed.Silent.{inside_of, IsFound, IsSilentNode, IsSilent, HoldsThere}
+use Rattle.steps.specs.Allowed.Places.{a_node, in_class_at, At}
 use Rattle.steps.specs.Allowed.Free.{IsFree, Free, FreeDeclarator}
 use Rattle.steps.specs.Allowed.SilentStatement.{SilentStatement, a_statement}
 use Rattle.steps.specs.Allowed.UnusedFunction.{a_function}
@@ -77,9 +78,9 @@ enclosed_alone_there a k n below h = let e = enclosed_there a k n below h in bot
 
 -- ---- silent rows declare in functions alone
 
-silent_kind : (bs : List BindingSite) (w : Bool) (c : Context) (k : Kind) (n : Note) (a : Forest) (parts : Type 0) → IsSilentNode bs w c k n a parts → is_binding k ≡ true → ⊥
+silent_kind : (bs : List BindingSite) (w : Surroundings) (c : Context) (k : Kind) (n : Note) (a : Forest) (parts : Type 0) → IsSilentNode bs w c k n a parts → is_binding k ≡ true → ⊥
 silent_kind bs w c (Kind.BindingName x) n a parts (inl e) g = true≢false (sym e)
-silent_kind bs w c (Kind.BindingName x) n a parts (inr (inl e)) g = e.1
+silent_kind bs w c (Kind.BindingName x) n a parts (inr (inl e)) g = e
 silent_kind bs w c (Kind.BindingName x) n a parts (inr (inr e)) g = true≢false (sym e.0)
 silent_kind bs w c k n a parts s g = true≢false (sym g)
 
@@ -124,18 +125,19 @@ one_name_there cs at next (node k n below (node j m inner rest)) e w b h = true�
 one_name_there cs at next (absent rest) e w b h = true≢false (sym e)
 one_name_there cs at next nothing e w b h = true≢false (sym e)
 
-found_below : (bs : List BindingSite) (c : Context) (next : ℕ) (k : Kind) (n : Note) (below : Forest) (b : BindingSite) → IsFound bs c k n below → is_enclosed_at k below ≡ true → is_enclosed below ≡ true → Below c next k below b
-found_below bs c next (Kind.ReferenceName x) n below b f w v h = absurd (nothing_there (inside c next (Kind.ReferenceName x) below) 0 (next + 0) below w b h)
-found_below bs c next (Kind.UnaryExpression unary.Typeof) n below b f w v h = absurd (one_name_there (inside c next (Kind.UnaryExpression unary.Typeof) below) 0 (next + 0) below f v b h)
-found_below bs c next k n below b f w v h = absurd f
+found_below : (bs : List BindingSite) (w : Surroundings) (c : Context) (next : ℕ) (k : Kind) (n : Note) (below : Forest) (b : BindingSite) → IsFound bs w c k n below → is_enclosed_at k below ≡ true → is_enclosed below ≡ true → Below c next k below b
+found_below bs w c next (Kind.ReferenceName x) n below b f u v h = absurd (nothing_there (inside c next (Kind.ReferenceName x) below) 0 (next + 0) below u b h)
+found_below bs w c next (Kind.UnaryExpression unary.Typeof) n below b f u v h = absurd (one_name_there (inside c next (Kind.UnaryExpression unary.Typeof) below) 0 (next + 0) below f.1 v b h)
+found_below bs w c next Kind.ThisExpression n below b f u v h = absurd (nothing_there (inside c next Kind.ThisExpression below) 0 (next + 0) below u b h)
+found_below bs w c next k n below b f u v h = absurd f
 
-silent_below : (bs : List BindingSite) (w : Bool) (c : Context) (next : ℕ) (k : Kind) (n : Note) (below : Forest) (b : BindingSite) (parts : Type 0) → is_enclosed_at k below ≡ true → is_enclosed below ≡ true → IsSilentNode bs w c k n below parts
+silent_below : (bs : List BindingSite) (w : Surroundings) (c : Context) (next : ℕ) (k : Kind) (n : Note) (below : Forest) (b : BindingSite) (parts : Type 0) → is_enclosed_at k below ≡ true → is_enclosed below ≡ true → IsSilentNode bs w c k n below parts
     → (parts → Among b (bindings_among (sites (inside c next k below) 0 (next + opens_one k below) below)) → In (next + opens_one k below) ((next + opens_one k below) + scope_count below) b.layer) → Below c next k below b
 silent_below bs w c next k n below b parts e v (inl u) inner h = value_below c next k below b u e h
-silent_below bs w c next k n below b parts e v (inr (inl f)) inner h = found_below bs c next k n below b f.1 e v h
+silent_below bs w c next k n below b parts e v (inr (inl f)) inner h = found_below bs w c next k n below b f e v h
 silent_below bs w c next k n below b parts e v (inr (inr r)) inner h = let i = inner r.1 h in record { from = Prim.omega (arith, i.from); to = Prim.omega (arith, i.to) }
 
-pub silent_inside : (bs : List BindingSite) (w : Bool) (cs : ℕ → Context) (at next : ℕ) (t : Forest) → is_enclosed t ≡ true → IsSilent bs w cs at next t → (b : BindingSite) → Among b (bindings_among (sites cs at next t)) → In next (next + scope_count t) b.layer
+pub silent_inside : (bs : List BindingSite) (w : Surroundings) (cs : ℕ → Context) (at next : ℕ) (t : Forest) → is_enclosed t ≡ true → IsSilent bs w cs at next t → (b : BindingSite) → Among b (bindings_among (sites cs at next t)) → In next (next + scope_count t) b.layer
 silent_inside bs w cs at next nothing e s b h = absurd h
 silent_inside bs w cs at next (absent rest) e s b h = silent_inside bs w cs (suc at) next rest e s b h
 silent_inside bs w cs at next (node k n below rest) e s b h =
@@ -158,8 +160,8 @@ silent_inside bs w cs at next (node k n below rest) e s b h =
 
 -- ---- each change
 
-pub unseen_statement : (a : Around) (n l : Note) (k : Kind) (inner : Forest) → is_enclosed (plug a (a_statement n l k inner)) ≡ true → At a (a_statement n l k inner) (SilentStatement (plug a (a_statement n l k inner)) (alone k l inner)) → IsUnseen a (a_statement n l k inner)
-unseen_statement a n l k inner e h = unseen_there a x (SilentStatement v (alone k l inner)) h by
+pub unseen_statement : (a : Around) (n l : Note) (k : Kind) (inner : Forest) → is_enclosed (plug a (a_statement n l k inner)) ≡ true → At a (a_statement n l k inner) (SilentStatement (plug a (a_statement n l k inner)) (alone k l inner) (in_class_at a)) → IsUnseen a (a_statement n l k inner)
+unseen_statement a n l k inner e h = unseen_there a x (SilentStatement v (alone k l inner) (in_class_at a)) h by
   where
     x : Option Tree
     x = a_statement n l k inner
@@ -167,14 +169,14 @@ unseen_statement a n l k inner e h = unseen_there a x (SilentStatement v (alone 
     v : Forest
     v = plug a x
 
-    by : (b : BindingSite) (w : Bool) (ds : ℕ → Context) (place next : ℕ) → SilentStatement v (alone k l inner) w (ds place) next → Among b (bindings_among (sites ds place next (one_place x))) → Fine v (scope_count (one_place x)) next b
+    by : (b : BindingSite) (w : Bool) (ds : ℕ → Context) (place next : ℕ) → SilentStatement v (alone k l inner) (in_class_at a) w (ds place) next → Among b (bindings_among (sites ds place next (one_place x))) → Fine v (scope_count (one_place x)) next b
     by b w ds place next s g = of_three (binding_in b (own_sites (ds place) n Kind.ExpressionStatement (alone k l inner)) (sites (inside (ds place) next Kind.ExpressionStatement (alone k l inner)) 0 (next + 0) (alone k l inner)) [] g)
       where
         of_three : InThree b (bindings_among (own_sites (ds place) n Kind.ExpressionStatement (alone k l inner))) (bindings_among (sites (inside (ds place) next Kind.ExpressionStatement (alone k l inner)) 0 (next + 0) (alone k l inner))) (bindings_among [])
             → Fine v (scope_count (one_place x)) next b
         of_three (in_first f) = absurd f
         of_three (in_second f) =
-            let i = silent_inside (bindings_among (sites_of v)) w (inside (ds place) next Kind.ExpressionStatement (alone k l inner)) 0 (next + 0) (alone k l inner) (enclosed_there a Kind.ExpressionStatement n (alone k l inner) e).1 s b f in
+            let i = silent_inside (bindings_among (sites_of v)) (inside_of (in_class_at a) w) (inside (ds place) next Kind.ExpressionStatement (alone k l inner)) 0 (next + 0) (alone k l inner) (enclosed_there a Kind.ExpressionStatement n (alone k l inner) e).1 s b f in
             inl (record { from = Prim.omega (arith, i.from); to = Prim.omega (arith, i.to) })
         of_three (in_third f) = absurd f
 
@@ -219,11 +221,11 @@ unseen_function a pure n m x rest e h = unseen_there a y (Free v variable.Let x)
         of_three (in_third f) = absurd f
 
 -- a declarator's name, and its value
-module _ (v : Forest) (x : List ℕ) (m : Note) (value : Forest) (w : Bool) (l : Note) (closed_value : is_enclosed value ≡ true) where
+module _ (v : Forest) (x : List ℕ) (m : Note) (value : Forest) (class w : Bool) (l : Note) (closed_value : is_enclosed value ≡ true) where
   abbrev declares_below : Forest
   declares_below = node (Kind.BindingName x) m nothing value
 
-  pub declarator_fine : (cs : ℕ → Context) (place next : ℕ) → SilentDeclarator v declares_below w (cs place) next → IsFree v (named_in x (cs place).declaring.layer)
+  pub declarator_fine : (cs : ℕ → Context) (place next : ℕ) → SilentDeclarator v declares_below class w (cs place) next → IsFree v (named_in x (cs place).declaring.layer)
       → (b : BindingSite) → Among b (bindings_among (sites cs place next (node Kind.VariableDeclarator l declares_below nothing))) → In next (next + scope_count value) b.layer ⊎ IsUnreferred v b
   declarator_fine cs place next silent free b g = of_three (binding_in b (own_sites (cs place) l Kind.VariableDeclarator declares_below) (sites (inside (cs place) next Kind.VariableDeclarator declares_below) 0 (next + 0) declares_below) [] g)
     where
@@ -235,7 +237,7 @@ module _ (v : Forest) (x : List ℕ) (m : Note) (value : Forest) (w : Bool) (l :
       of_part (in_first (inr q)) = absurd q
       of_part (in_second q) = absurd q
       of_part (in_third q) =
-          let i = silent_inside (bindings_among (sites_of v)) w fs 1 (next + 0 + scope_count (node (Kind.BindingName x) m nothing nothing)) value closed_value silent.1 b q in
+          let i = silent_inside (bindings_among (sites_of v)) (inside_of class w) fs 1 (next + 0 + scope_count (node (Kind.BindingName x) m nothing nothing)) value closed_value silent.1 b q in
           inl (record { from = Prim.omega (arith, i.from); to = Prim.omega (arith, i.to) })
 
       of_three : InThree b (bindings_among (own_sites (cs place) l Kind.VariableDeclarator declares_below)) (bindings_among (sites fs 0 (next + 0) declares_below)) (bindings_among []) → In next (next + scope_count value) b.layer ⊎ IsUnreferred v b
@@ -244,14 +246,14 @@ module _ (v : Forest) (x : List ℕ) (m : Note) (value : Forest) (w : Bool) (l :
       of_three (in_third f) = absurd f
 
 pub unseen_declarator : (a : Around) (n m : Note) (x : List ℕ) (value : Forest) → is_enclosed (plug a (a_declarator n m x value)) ≡ true
-    → At a (a_declarator n m x value) (SilentDeclarator (plug a (a_declarator n m x value)) (node (Kind.BindingName x) m nothing value)) → At a (a_declarator n m x value) (FreeDeclarator (plug a (a_declarator n m x value)) x) → IsUnseen a (a_declarator n m x value)
+    → At a (a_declarator n m x value) (SilentDeclarator (plug a (a_declarator n m x value)) (node (Kind.BindingName x) m nothing value) (in_class_at a)) → At a (a_declarator n m x value) (FreeDeclarator (plug a (a_declarator n m x value)) x) → IsUnseen a (a_declarator n m x value)
 unseen_declarator a n m x value e h f =
     let y = a_declarator n m x value in
     let v = plug a y in
     let below = node (Kind.BindingName x) m nothing value in
-    unseen_there a y (λ w c next. SilentDeclarator v below w c next × FreeDeclarator v x w c next) (both_at y (SilentDeclarator v below) (FreeDeclarator v x) false (λ at. outermost) 0 0 a h f)
+    unseen_there a y (λ w c next. SilentDeclarator v below (in_class_at a) w c next × FreeDeclarator v x w c next) (both_at y (SilentDeclarator v below (in_class_at a)) (FreeDeclarator v x) false (λ at. outermost) 0 0 a h f)
     (λ b w ds place next both g.
-    elim (declarator_fine v x m value w n (enclosed_rest (Kind.BindingName x) m nothing value (enclosed_there a Kind.VariableDeclarator n below e).1) ds place next both.0 both.1 b g) [
+    elim (declarator_fine v x m value (in_class_at a) w n (enclosed_rest (Kind.BindingName x) m nothing value (enclosed_there a Kind.VariableDeclarator n below e).1) ds place next both.0 both.1 b g) [
       | inl i ↦ inl (record { from = i.from; to = Prim.omega (arith, i.to) })
       | inr u ↦ inr u
     ])
@@ -262,10 +264,10 @@ layer_below c variable.Let = refl
 layer_below c variable.Const = refl
 
 pub unseen_declaration : (a : Around) (how : VariableKind) (n m l j : Note) (x : List ℕ) (value : Forest) → is_enclosed (plug a (a_declaration how n m l j x value)) ≡ true
-    → At a (a_declaration how n m l j x value) (SilentDeclaration (plug a (a_declaration how n m l j x value)) how m l (node (Kind.BindingName x) j nothing value))
+    → At a (a_declaration how n m l j x value) (SilentDeclaration (plug a (a_declaration how n m l j x value)) how m l (node (Kind.BindingName x) j nothing value) (in_class_at a))
     → At a (a_declaration how n m l j x value) (Free (plug a (a_declaration how n m l j x value)) how x) → IsUnseen a (a_declaration how n m l j x value)
 unseen_declaration a how n m l j x value e h f =
-    unseen_there a y (λ w c next. SilentDeclaration v how m l below w c next × Free v how x w c next) (both_at y (SilentDeclaration v how m l below) (Free v how x) false (λ at. outermost) 0 0 a h f) by
+    unseen_there a y (λ w c next. SilentDeclaration v how m l below (in_class_at a) w c next × Free v how x w c next) (both_at y (SilentDeclaration v how m l below (in_class_at a)) (Free v how x) false (λ at. outermost) 0 0 a h f) by
   where
     y : Option Tree
     y = a_declaration how n m l j x value
@@ -287,7 +289,7 @@ unseen_declaration a how n m l j x value e h f =
         let all = (enclosed_there a (Kind.VariableDeclaration how) n whole e).1 in
         enclosed_rest (Kind.BindingName x) j nothing value (enclosed_below Kind.VariableDeclarator l below nothing (enclosed_below Kind.Declarators m ds nothing all))
 
-    by : (b : BindingSite) (w : Bool) (cs : ℕ → Context) (place next : ℕ) → SilentDeclaration v how m l below w (cs place) next × Free v how x w (cs place) next → Among b (bindings_among (sites cs place next (one_place y))) → Fine v (scope_count (one_place y)) next b
+    by : (b : BindingSite) (w : Bool) (cs : ℕ → Context) (place next : ℕ) → SilentDeclaration v how m l below (in_class_at a) w (cs place) next × Free v how x w (cs place) next → Among b (bindings_among (sites cs place next (one_place y))) → Fine v (scope_count (one_place y)) next b
     by b w cs place next both g = of_outer (binding_in b (own_sites (cs place) n (Kind.VariableDeclaration how) whole) (sites (inside (cs place) next (Kind.VariableDeclaration how) whole) 0 (next + 0) whole) [] g)
       where
         outer : ℕ → Context
@@ -299,7 +301,7 @@ unseen_declaration a how n m l j x value e h f =
         of_inner : InThree b (bindings_among (own_sites (outer 0) m Kind.Declarators ds)) (bindings_among (sites list 0 (next + 0 + 0) ds)) (bindings_among []) → Fine v (scope_count (one_place y)) next b
         of_inner (in_first q) = absurd q
         of_inner (in_second q) =
-            elim (declarator_fine v x j value w l closed_value list 0 (next + 0 + 0) both.0 (subst (λ r. IsFree v (named_in x r)) (sym (layer_below (cs place) how)) both.1) b q) [
+            elim (declarator_fine v x j value (in_class_at a) w l closed_value list 0 (next + 0 + 0) both.0 (subst (λ r. IsFree v (named_in x r)) (sym (layer_below (cs place) how)) both.1) b q) [
               | inl i ↦ inl (record { from = Prim.omega (arith, i.from); to = Prim.omega (arith, i.to) })
               | inr u ↦ inr u
             ]

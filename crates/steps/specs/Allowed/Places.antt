@@ -2,12 +2,13 @@
 use Rattle.std.specs.Prelude.{◌≡◌, ℕ, Bool, true, false, ◌||◌, Option, Some}
 use Rattle.js_syntax.specs.declared.node_kind.NodeKind.{NodeKind as Kind}
 use Rattle.js_syntax.specs.Node.{Forest, Tree, Note, nothing, node, absent}
+use Rattle.js_effects.specs.declared.surroundings.Surroundings.{Surroundings}
 use Rattle.min_pass.specs.declared.around.Around.{Around as Asked}
 use Rattle.min_pass.specs.declared.around.Row.TheVariants.{Items as items, Declarators as item_declarators}
 use Rattle.min_pass.specs.Around.{entered as asked_below, outermost as asked_of_program}
 use Rattle.scope_rules.specs.Context.{Context, outermost}
 use Rattle.scope_laws.specs.Place.{Around, first, behind, behind_none, under}
-use Rattle.steps.specs.Allowed.Silent.{HoldsThere}
+use Rattle.steps.specs.Allowed.Silent.{inside_of, HoldsThere}
 use Rattle.steps.specs.Allowed.Uses.{use_at, stands_bare}
 
 abbrev pub a_node : Kind → Note → (below : Forest) → Option Tree
@@ -19,6 +20,17 @@ asked_at w (first rest) = w
 asked_at w (behind k n below a) = asked_at w a
 asked_at w (behind_none a) = asked_at w a
 asked_at w (under k n a rest) = asked_at (asked_below w k) a
+
+-- whether a class stands around it
+abbrev pub in_class_at : Around → Bool
+in_class_at a = (asked_at (asked_of_program true) a).in_class
+
+-- what stands around it, of what is asked
+abbrev pub surroundings_asked : Asked → Surroundings
+surroundings_asked w = inside_of w.in_class w.in_with
+
+abbrev pub surroundings_at : Around → Surroundings
+surroundings_at a = surroundings_asked (asked_at (asked_of_program true) a)
 
 -- an item of a list of statements
 abbrev pub IsItem : Around → Type 0

@@ -4,15 +4,15 @@ use Rattle.std.specs.Prelude.{◌≡◌, ℕ, Bool, true, false, not, ◌&&◌, 
 use Rattle.js_syntax.specs.declared.node_kind.NodeKind.{NodeKind as Kind}
 use Rattle.js_syntax.specs.declared.node_kind.NodeKind.TheVariants.{UnaryExpression as unary_expression, BinaryExpression as binary_expression, LogicalExpression as logical_expression, ConditionalExpression as conditional_expression}
 use Rattle.js_syntax.specs.Node.{Forest, Tree, Note, nothing, node, alone}
-use Rattle.js_effects.specs.Silence.{may_have_effects, only_combines}
+use Rattle.js_effects.specs.Silence.{anywhere, may_have_effects, only_combines}
 use Rattle.scope_laws.specs.Place.{Around}
 use Rattle.steps.specs.Allowed.Child.{child_at}
 use Rattle.steps.specs.Allowed.Unused.{is_unused_at}
 use Rattle.steps.specs.Allowed.Uses.{Use, as_value, operand_of, stands_bare}
 
--- whether an expression may act wherever it stands: no name is known
+-- whether an expression may act wherever it stands: neither names nor `this` are known
 abbrev pub acts : Kind → Note → (below : Forest) → Bool
-acts k n below = may_have_effects [] true (alone k n below)
+acts k n below = may_have_effects [] anywhere (alone k n below)
 
 -- and whether it may stand there itself, as an operand that is used so
 abbrev pub is_needed : Use → Kind → Note → (below : Forest) → Bool

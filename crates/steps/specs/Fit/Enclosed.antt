@@ -2,7 +2,7 @@
 -- function and a class begin with their name, if they have one, and what lies in them declares nothing around them.
 use Rattle.std.specs.Prelude.{ℕ, suc, ◌==◌, Bool, true, false, not, ◌&&◌, if◌then◌else◌}
 use Rattle.js_syntax.specs.declared.node_kind.NodeKind.{NodeKind as Kind}
-use Rattle.js_syntax.specs.declared.node_kind.NodeKind.TheVariants.{Program as program, Function as function, Class as class, StaticBlock as static_block, CatchClause as catch_clause, VariableDeclaration as variable_declaration, ImportDeclaration as import_declaration, BindingName as binding_name, ReferenceName as reference_name, Literal as literal, RegExp as reg_exp, NewTarget as new_target, Hole as hole, TemplateElement as template_element}
+use Rattle.js_syntax.specs.declared.node_kind.NodeKind.TheVariants.{Program as program, Function as function, Class as class, StaticBlock as static_block, CatchClause as catch_clause, VariableDeclaration as variable_declaration, ImportDeclaration as import_declaration, BindingName as binding_name, ReferenceName as reference_name, Literal as literal, RegExp as reg_exp, ThisExpression as this_expression, NewTarget as new_target, Hole as hole, TemplateElement as template_element}
 use Rattle.js_syntax.specs.declared.kind.VariableKind.TheVariants as variable
 use Rattle.js_syntax.specs.Node.{Forest, nothing, node, absent}
 use Rattle.steps.specs.Allowed.Arranged.{is_nothing}
@@ -55,6 +55,7 @@ is_enclosed_at (function how pure) below = begins_with_name below && closed none
 is_enclosed_at (class how) below = begins_with_name below && closed (inherits (class how)) (inherits (class how)) 0 below
 is_enclosed_at (literal v) below = is_nothing below
 is_enclosed_at (reg_exp x) below = is_nothing below
+is_enclosed_at this_expression below = is_nothing below
 is_enclosed_at new_target below = is_nothing below
 is_enclosed_at hole below = is_nothing below
 is_enclosed_at (template_element written tail) below = is_nothing below

@@ -12,7 +12,7 @@ use Rattle.scope_laws.specs.Exact.{Among}
 use Rattle.scope_laws.specs.Place.{Around}
 use Rattle.scope_counts.specs.Exact.{count, lists_of}
 use Rattle.scope_counts.specs.Scopes.{ExactButMarks}
-use Rattle.steps.specs.Allowed.Places.{asked_at}
+use Rattle.steps.specs.Allowed.Places.{asked_at, surroundings_at}
 use Rattle.steps.specs.Naming.Standing.{exported_declarations}
 use Rattle.steps.specs.Marked.Flags.{FlagsTell}
 
@@ -45,10 +45,10 @@ pub record IsBound (s : Scoping) (id : ℕ) : Type 0 where
 abbrev pub AreBound : Scoping → (bound : List Bool) → Type 0
 AreBound s bound = (id : ℕ) → is_marked bound (Some id) ≡ true → IsBound s id
 
--- Nothing in a row has an effect, by what is known of names at a place.
+-- Nothing in a row has an effect, by what is known of names and of `this` at a place.
 abbrev pub IsSilentAt : (bound : List Bool) → Around → Forest → Type 0
-IsSilentAt bound a t = may_have_effects bound (asked_at (asked_of_program true) a).in_with t ≡ false
+IsSilentAt bound a t = may_have_effects bound (surroundings_at a) t ≡ false
 
 -- So it is with a declarator's value; inside of a `with` statement it may set a property of its object.
 abbrev pub IsSilentValue : (bound : List Bool) → Around → (value : Forest) → Type 0
-IsSilentValue bound a value = may_have_effects bound (asked_at (asked_of_program true) a).in_with value || (asked_at (asked_of_program true) a).in_with && is_given value ≡ false
+IsSilentValue bound a value = may_have_effects bound (surroundings_at a) value || (asked_at (asked_of_program true) a).in_with && is_given value ≡ false

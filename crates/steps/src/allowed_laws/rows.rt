@@ -46,16 +46,16 @@ pub fn silent_statements_go()
 
 /// A call isn't silent, nor is a name that nothing declares.
 pub fn calls_stay()
-    ensures call { At (before []) (a_node Kind.ExpressionStatement nowhere call_of_a) (SilentStatement (a_module (does call_of_a ∷ [])) call_of_a) → ⊥ }
-    ensures name { At (before []) (a_node Kind.ExpressionStatement nowhere (reads a)) (SilentStatement (a_module (does (reads a) ∷ [])) (reads a)) → ⊥ }
+    ensures call { At (before []) (a_node Kind.ExpressionStatement nowhere call_of_a) (SilentStatement (a_module (does call_of_a ∷ [])) call_of_a false) → ⊥ }
+    ensures name { At (before []) (a_node Kind.ExpressionStatement nowhere (reads a)) (SilentStatement (a_module (does (reads a) ∷ [])) (reads a) false) → ⊥ }
 {}
 
 /// Inside of a `with` statement a declared name isn't silent, since its object may answer, nor a declaration of a value, which may
 /// set a property of it.
 pub fn nothing_is_known_in_with()
-    ensures name { At in_with_a (a_node Kind.ExpressionStatement nowhere (reads a)) (SilentStatement (with_a (does (reads a))) (reads a)) → ⊥ }
-    ensures read { At in_with_a (a_declaration variable.Let nowhere nowhere nowhere nowhere a (reads a)) (SilentDeclaration (with_a (declares variable.Let (binds a) (reads a))) variable.Let nowhere nowhere (joined (binds a) (reads a))) → ⊥ }
-    ensures given { At in_with_a (a_declaration variable.Var nowhere nowhere nowhere nowhere a one) (SilentDeclaration (with_a (declares variable.Var (binds a) one)) variable.Var nowhere nowhere (joined (binds a) one)) → ⊥ }
+    ensures name { At in_with_a (a_node Kind.ExpressionStatement nowhere (reads a)) (SilentStatement (with_a (does (reads a))) (reads a) false) → ⊥ }
+    ensures read { At in_with_a (a_declaration variable.Let nowhere nowhere nowhere nowhere a (reads a)) (SilentDeclaration (with_a (declares variable.Let (binds a) (reads a))) variable.Let nowhere nowhere (joined (binds a) (reads a)) false) → ⊥ }
+    ensures given { At in_with_a (a_declaration variable.Var nowhere nowhere nowhere nowhere a one) (SilentDeclaration (with_a (declares variable.Var (binds a) one)) variable.Var nowhere nowhere (joined (binds a) one) false) → ⊥ }
 {}
 
 /// A variable and a function that nothing refers to go.

@@ -15,7 +15,7 @@ ghost use Rattle.scope_rules.specs.Table.{Scoping, scoping_of, symbols_declared}
 ghost use Rattle.scope_counts.specs.Losing.{MarksWhatLeft, Prunes};
 ghost use Rattle.scope_laws.specs.Place.{Around, plug};
 ghost use Rattle.scope_laws.specs.Lists.{without};
-ghost use Rattle.steps.specs.Allowed.Places.{a_node, IsItem, IsDeclarator, has_other, At};
+ghost use Rattle.steps.specs.Allowed.Places.{a_node, in_class_at, IsItem, IsDeclarator, has_other, At};
 ghost use Rattle.steps.specs.Allowed.SilentStatement.{a_statement};
 ghost use Rattle.steps.specs.Allowed.UnusedFunction.{a_function};
 ghost use Rattle.steps.specs.Allowed.UnusedDeclarator.{SilentDeclarator, a_declarator};
@@ -57,13 +57,13 @@ pub fn unused_functions_may_leave()
 pub fn unused_variables_may_leave()
     ensures declarators { (s : Scoping) (marked exported : ℕ → Bool) (a : Around) (n m : Note) (x : List ℕ) (value : Forest) →
         let t = plug a (a_declarator n m x value) in
-        IsTold s marked exported t → IsDeclarator a → has_other false a ≡ true → At a (a_declarator n m x value) (SilentDeclarator t (node (binding_name x) m nothing value))
+        IsTold s marked exported t → IsDeclarator a → has_other false a ≡ true → At a (a_declarator n m x value) (SilentDeclarator t (node (binding_name x) m nothing value) (in_class_at a))
         → (symbol : ℕ) → m.id ≡ Some symbol → IsUnused s marked exported symbol
         → (scope : ℕ) → (stand a (a_declarator n m x value)).declaring ≡ Some scope → is_script t && scope == 0 ≡ false → evaluates_somewhere t ≡ false
         → Edit t (without a) }
     ensures declarations { (s : Scoping) (marked exported : ℕ → Bool) (a : Around) (how : VariableKind) (n m l j : Note) (x : List ℕ) (value : Forest) →
         let t = plug a (a_declaration how n m l j x value) in
-        IsTold s marked exported t → IsItem a → At a (a_declaration how n m l j x value) (SilentDeclaration t how m l (node (binding_name x) j nothing value))
+        IsTold s marked exported t → IsItem a → At a (a_declaration how n m l j x value) (SilentDeclaration t how m l (node (binding_name x) j nothing value) (in_class_at a))
         → (symbol : ℕ) → j.id ≡ Some symbol → IsUnused s marked exported symbol
         → (scope : ℕ) → declares_in (stand a (a_declaration how n m l j x value)) how ≡ Some scope → is_script t && scope == 0 ≡ false → evaluates_somewhere t ≡ false
         → Edit t (without a) }
@@ -76,12 +76,12 @@ pub fn silent_statements_may_become_empty()
         IsTold s marked exported t → AreBound s bound → IsSilentAt bound a (alone k l inner) → Edit t (plug a (a_node empty_statement m nothing)) }
 {}
 
-/// Law: what a declarator computes is silent where it has no effects, by what is known of names.
+/// Law: what a declarator computes is silent where it has no effects, by what is known of names and of `this`.
 pub fn silent_values_are_silent()
     ensures declarators { (s : Scoping) (marked exported : ℕ → Bool) (bound : List Bool) (a : Around) (n m : Note) (x : List ℕ) (value : Forest) →
         let t = plug a (a_declarator n m x value) in
-        IsTold s marked exported t → AreBound s bound → IsSilentValue bound a value → At a (a_declarator n m x value) (SilentDeclarator t (node (binding_name x) m nothing value)) }
+        IsTold s marked exported t → AreBound s bound → IsSilentValue bound a value → At a (a_declarator n m x value) (SilentDeclarator t (node (binding_name x) m nothing value) (in_class_at a)) }
     ensures declarations { (s : Scoping) (marked exported : ℕ → Bool) (bound : List Bool) (a : Around) (how : VariableKind) (n m l j : Note) (x : List ℕ) (value : Forest) →
         let t = plug a (a_declaration how n m l j x value) in
-        IsTold s marked exported t → AreBound s bound → IsSilentValue bound a value → At a (a_declaration how n m l j x value) (SilentDeclaration t how m l (node (binding_name x) j nothing value)) }
+        IsTold s marked exported t → AreBound s bound → IsSilentValue bound a value → At a (a_declaration how n m l j x value) (SilentDeclaration t how m l (node (binding_name x) j nothing value) (in_class_at a)) }
 {}
