@@ -26,7 +26,7 @@ use Rattle.steps.proofs.Naming.Sites.{binding_second}
 use Rattle.steps.specs.Allowed.EmptyBlock.{holds_nothing, EmptyBlock, empty_block_leaves}
 use Rattle.steps.specs.Allowed.IdleBody.{IdleBody}
 use Rattle.steps.specs.Allowed.Exposure.{Exposure, exposure, is_script, shares, function_is_exposed, evaluates_somewhere, IsOwnFunction, IsOwnDeclarator, IsOwnDeclaration}
-use Rattle.steps.specs.Allowed.Places.{a_node, asked_at, IsItem, IsDeclarator, At}
+use Rattle.steps.specs.Allowed.Places.{a_node, asked_at, in_class_at, surroundings_at, IsItem, IsDeclarator, At}
 use Rattle.steps.specs.Allowed.Free.{IsFree, Free, FreeDeclarator}
 use Rattle.scope_rules.specs.Binding.{named_in}
 use Rattle.steps.specs.Allowed.SilentStatement.{SilentStatement}
@@ -39,16 +39,16 @@ use Rattle.steps.proofs.Owed.Unseen.{layer_below}
 use Rattle.steps.specs.Marked.Flags.{Stand, scope_has, is_sloppy_block, stand_inside, first_mark, stands_of, stand_at, stand}
 use Rattle.steps.proofs.Marked.Telling.{stand_exposed}
 use Rattle.js_syntax.proofs.Truth.{neither, first_of_neither, second_of_neither, first_of_either, second_of_either}
-use Rattle.rules.specs.DeadCode.Rules.{Facts, Where, has_with, where_of, scope_of, is_unlisted, is_global, variable_is_unused, is_quiet, is_silent_statement, one_goes, item_has_dead, is_idle_body, is_item}
+use Rattle.rules.specs.DeadCode.Rules.{Facts, Where, where_of, surroundings_below, scope_of, is_unlisted, is_global, variable_is_unused, is_quiet, is_silent_statement, one_goes, item_has_dead, is_idle_body, is_item}
 use Rattle.rules.specs.DeadCode.Knows.{Knows}
 use Rattle.rules.proofs.DeadCode.Keeping.{Known}
 use Rattle.rules.proofs.DeadCode.LaidOut.{has_list, is_laid, fits_laid, laid_here}
 use Rattle.rules.proofs.DeadCode.Bodies.{idle_told}
-use Rattle.rules.proofs.DeadCode.Places.{to, plugged, join, plug_join, asked_row, asked_to, is_row, with_is}
+use Rattle.rules.proofs.DeadCode.Places.{to, plugged, join, plug_join, asked_row, asked_to, is_row, surroundings_there}
 use Rattle.rules.proofs.DeadCode.Numbers.{Same, whole_stand, numbers, stand_to, stand_along}
 use Rattle.rules.proofs.DeadCode.Silent.{of_left, of_right}
 use Rattle.rules.proofs.DeadCode.Leaving.{named_site}
-use Rattle.rules.proofs.DeadCode.Items.{laid_there, items_same, in_declaration, declarator_with}
+use Rattle.rules.proofs.DeadCode.Items.{laid_there, items_same, in_declaration, declarator_surroundings}
 use Rattle.rules.proofs.DeadCode.Stating.{is_item_there, with_there}
 use Rattle.rules.specs.DeadCode.Quiet.{TellsOnly, ToldOnly, Exactly, IsQuiet}
 use Rattle.rules.proofs.DeadCode.Idle.{find, idle_row, unlisted}
@@ -153,21 +153,19 @@ module _ (f : Facts) where
 
   silent_alive : (a : counts.Around) (rest : Forest) (n : Note) (below : Forest)
       → let b = to a (first rest) in
-      Good f (places.plug b (a_node expression_statement n below)) → At b (a_node expression_statement n below) (SilentStatement (places.plug b (a_node expression_statement n below)) below) → ⊥
+      Good f (places.plug b (a_node expression_statement n below)) → At b (a_node expression_statement n below) (SilentStatement (places.plug b (a_node expression_statement n below)) below (in_class_at b)) → ⊥
   silent_alive a rest n below g silent =
       let b = to a (first rest) in
       let y : Tree = record { kind = expression_statement; note = n; below = below } in
       let t = places.plug b (Some y) in
-      let place = find b (Some y) (SilentStatement t below) silent in
+      let place = find b (Some y) (SilentStatement t below (in_class_at b)) silent in
       let cs = inside (place.contexts place.at) place.next expression_statement below in
       let own = own_sites (place.contexts place.at) n expression_statement below in
       let next = place.next + opens_one expression_statement below in
-      let in_with = (asked_at (asked_of_program true) b).in_with in
-      let idle = idle_row f t g.knows in_with cs 0 next below (of_right (references_among (sites_of t)) own (sites cs 0 next below) (of_left (references_among (sites_of t)) (own ++ sites cs 0 next below) [] place.references)) place.holds_there in
-      let with_there : in_with ≡ has_with (place_at a (goes_on rest)).ancestors = ap (λ (w : Asked). w.in_with) (asked_to (asked_of_program true) a (first rest)) ∙ with_is a (goes_on rest) in
+      let idle = idle_row f t g.knows (surroundings_at b) cs 0 next below (of_right (references_among (sites_of t)) own (sites cs 0 next below) (of_left (references_among (sites_of t)) (own ++ sites cs 0 next below) [] place.references)) place.holds_there in
       let quiet = (good_row a y rest g).quiet.statements_stay a y rest refl in
-      some_empty (not (may_have_effects f.bound (has_with (place_at a (goes_on rest)).ancestors) below) || is_idle_body (place_at a (goes_on rest)) expression_statement below) (record { kind = empty_statement; note = without_mark n; below = nothing })
-      (first_of_either (not (may_have_effects f.bound (has_with (place_at a (goes_on rest)).ancestors) below)) (is_idle_body (place_at a (goes_on rest)) expression_statement below) (ap not (subst (λ v. may_have_effects f.bound v below ≡ false) with_there idle)))
+      some_empty (not (may_have_effects f.bound (surroundings_below (place_at a (goes_on rest)).ancestors) below) || is_idle_body (place_at a (goes_on rest)) expression_statement below) (record { kind = empty_statement; note = without_mark n; below = nothing })
+      (first_of_either (not (may_have_effects f.bound (surroundings_below (place_at a (goes_on rest)).ancestors) below)) (is_idle_body (place_at a (goes_on rest)) expression_statement below) (ap not (subst (λ v. may_have_effects f.bound v below ≡ false) (surroundings_there a rest) idle)))
       quiet
 
   -- one that does nothing, as a branch or a body
@@ -208,22 +206,21 @@ module _ (f : Facts) where
       subst (λ p. TellsOnly f.scoping (is_script (plug a (node k n b rest))) p) (stand_to a (first rest) (Some x))
       (subst (λ t. TellsOnly f.scoping (is_script t) (stand (to a (first rest)) (Some x))) (plugged a (first rest) (Some x)) (only_at (to a (first rest)) x (subst (λ t. Exactly f t) (sym (plugged a (first rest) (Some x))) e)))
 
-  initialiser_quiet : (b : Around) (i j : Note) (x : List ℕ) (value : Forest) → Good f (places.plug b (a_declarator i j x value)) → (p : Place) → (asked_at (asked_of_program true) b).in_with ≡ has_with p.ancestors
-      → At b (a_declarator i j x value) (SilentDeclarator (places.plug b (a_declarator i j x value)) (node (binding_name x) j nothing value)) → is_quiet f (where_of p) value ≡ true
+  initialiser_quiet : (b : Around) (i j : Note) (x : List ℕ) (value : Forest) → Good f (places.plug b (a_declarator i j x value)) → (p : Place) → surroundings_at b ≡ surroundings_below p.ancestors
+      → At b (a_declarator i j x value) (SilentDeclarator (places.plug b (a_declarator i j x value)) (node (binding_name x) j nothing value) (in_class_at b)) → is_quiet f (where_of p) value ≡ true
   initialiser_quiet b i j x value g p is silent =
       let below = node (binding_name x) j nothing value in
       let t = places.plug b (a_declarator i j x value) in
       let all = references_among (sites_of t) in
-      let place = find b (a_declarator i j x value) (SilentDeclarator t below) silent in
+      let place = find b (a_declarator i j x value) (SilentDeclarator t below (in_class_at b)) silent in
       let own = own_sites (place.contexts place.at) i variable_declarator below in
       let ds = inside (place.contexts place.at) place.next variable_declarator below in
       let next = place.next + opens_one variable_declarator below in
       let name = own_sites (ds 0) j (binding_name x) nothing ++ sites (inside (ds 0) next (binding_name x) nothing) 0 (next + 0) nothing in
       let behind_name = sites ds 1 (next + scope_count (node (binding_name x) j nothing nothing)) value in
-      let in_with = (asked_at (asked_of_program true) b).in_with in
-      let idle = idle_row f t g.knows in_with ds 1 (next + scope_count (node (binding_name x) j nothing nothing)) value
+      let idle = idle_row f t g.knows (surroundings_at b) ds 1 (next + scope_count (node (binding_name x) j nothing nothing)) value
       (of_right all name behind_name (of_right all own (name ++ behind_name) (of_left all (own ++ (name ++ behind_name)) [] place.references))) place.holds_there.1 in
-      ap not (subst (λ v. (may_have_effects f.bound v value || v && is_given value) ≡ false) is (neither (may_have_effects f.bound in_with value) (in_with && is_given value) idle place.holds_there.0))
+      ap not (subst (λ v. (may_have_effects f.bound v value || v.in_with && is_given value) ≡ false) is (neither (may_have_effects f.bound (surroundings_at b) value) ((surroundings_at b).in_with && is_given value) idle place.holds_there.0))
 
   -- a declaration of one name, of which the value stays
   value_alive : f.keeps_unused ≡ false → (a : counts.Around) (rest : Forest) (how : VariableKind) (n m l j i : Note) (x : List ℕ) (k : Kind) (inner : Forest)
@@ -266,7 +263,7 @@ module _ (f : Facts) where
   declarator_alive : f.keeps_unused ≡ false → (o : counts.Around) (m : Note) (c : counts.Around) (beside rest : Forest) → is_row c ≡ true → (how : VariableKind) (n l : Note) (d : counts.Around) (more : Forest) → is_row d ≡ true → (i j : Note) (x : List ℕ) (value : Forest)
       → let b = to (join o (under statements m c beside)) (in_declaration how n l d more rest) in
       Good f (places.plug b (a_declarator i j x value)) → IsOwnDeclarator b (a_declarator i j x value)
-      → At b (a_declarator i j x value) (SilentDeclarator (places.plug b (a_declarator i j x value)) (node (binding_name x) j nothing value))
+      → At b (a_declarator i j x value) (SilentDeclarator (places.plug b (a_declarator i j x value)) (node (binding_name x) j nothing value) (in_class_at b))
       → At b (a_declarator i j x value) (FreeDeclarator (places.plug b (a_declarator i j x value)) x) → ⊥
   declarator_alive unkept o m c beside rest row how n l d more drow i j x value g own silent free =
       let a = join o (under statements m c beside) in
@@ -295,7 +292,7 @@ module _ (f : Facts) where
       let site = named_site (fs 0) j x in
       let stands = place.bindings site (binding_second site (own_sites (place.contexts place.at) i variable_declarator below) (sites fs 0 (place.next + 0) below) [] (inl refl)) in
       let unused = and_from (is_unlisted f j.id) (not (is_global f (scope_of w how) || scope_has f.scoping 0 scope_flag.direct_eval)) (unlisted f t g.knows unkept g.exactly site stands place.holds_there) (ap not hidden) in
-      let goes = and_from (variable_is_unused f (scope_of w how) j.id) (is_quiet f w value) unused (initialiser_quiet b i j x value g p (declarator_with a d how n l more rest p items_there drow) silent) in
+      let goes = and_from (variable_is_unused f (scope_of w how) j.id) (is_quiet f w value) unused (initialiser_quiet b i j x value g p (declarator_surroundings a d how n l more rest p items_there drow) silent) in
       let one = some_goes f w how d variable_declarator i below more drow goes in
       true≢false (sym (ap (λ v. one_goes f w how v) (plugged d (first more) (Some y)) ∙ one) ∙ item_quiet o m c beside (variable_declaration how) n list rest row here_.quiet)
 
@@ -389,11 +386,11 @@ module _ (f : Facts) (t : Forest) (knows : Knows f unmarked t) (exactly : Exactl
       let i = item_in b item in
       block_alive f i.outer i.note i.inner i.beside i.rest i.in_row x held (subst (λ c. Good f (places.plug c (Some x))) (sym i.is) (good_there (Some x) is))
 
-  pub no_silent_statement : (n : Note) (below : Forest) → t ≡ places.plug b (a_node expression_statement n below) → At b (a_node expression_statement n below) (SilentStatement t below) → ⊥
+  pub no_silent_statement : (n : Note) (below : Forest) → t ≡ places.plug b (a_node expression_statement n below) → At b (a_node expression_statement n below) (SilentStatement t below (in_class_at b)) → ⊥
   no_silent_statement n below is silent =
       let y = a_node expression_statement n below in
-      subst (λ c. Good f (places.plug c y) → At c y (SilentStatement (places.plug c y) below) → ⊥) (whole_place b) (silent_alive f (place_of b) (rest_of b) n below) (good_there y is)
-      (subst (λ v. At b y (SilentStatement v below)) is silent)
+      subst (λ c. Good f (places.plug c y) → At c y (SilentStatement (places.plug c y) below (in_class_at c)) → ⊥) (whole_place b) (silent_alive f (place_of b) (rest_of b) n below) (good_there y is)
+      (subst (λ v. At b y (SilentStatement v below (in_class_at b))) is silent)
 
   pub no_idle_body : (x y : Tree) → t ≡ places.plug b (Some x) → IdleBody b x y → ⊥
   no_idle_body x y is idle =
@@ -407,14 +404,14 @@ module _ (f : Facts) (t : Forest) (knows : Knows f unmarked t) (exactly : Exactl
       (subst (λ v. At b y (Free v variable.Let x)) is free)
 
   pub no_unused_declarator : (n m : Note) (x : List ℕ) (value : Forest) → t ≡ places.plug b (a_declarator n m x value) → f.keeps_unused ≡ false → IsDeclarator b → IsOwnDeclarator b (a_declarator n m x value)
-      → At b (a_declarator n m x value) (SilentDeclarator t (node (binding_name x) m nothing value)) → At b (a_declarator n m x value) (FreeDeclarator t x) → ⊥
+      → At b (a_declarator n m x value) (SilentDeclarator t (node (binding_name x) m nothing value) (in_class_at b)) → At b (a_declarator n m x value) (FreeDeclarator t x) → ⊥
   no_unused_declarator n m x value is unkept declares own silent free =
       let y = a_declarator n m x value in
       let here_ = good_there y is in
       let i = declarator_in b (record { kind = variable_declarator; note = n; below = node (binding_name x) m nothing value }) (fits_laid (places.plug b y) here_.knows.fits) declares in
-      subst (λ c. Good f (places.plug c y) → IsOwnDeclarator c y → At c y (SilentDeclarator (places.plug c y) (node (binding_name x) m nothing value)) → At c y (FreeDeclarator (places.plug c y) x) → ⊥) i.is
+      subst (λ c. Good f (places.plug c y) → IsOwnDeclarator c y → At c y (SilentDeclarator (places.plug c y) (node (binding_name x) m nothing value) (in_class_at c)) → At c y (FreeDeclarator (places.plug c y) x) → ⊥) i.is
       (declarator_alive f unkept i.outer i.note i.inner i.beside i.rest i.in_row i.how i.declaration_note i.list_note i.before i.more i.before_in_row n m x value) here_ own
-      (subst (λ v. At b y (SilentDeclarator v (node (binding_name x) m nothing value))) is silent) (subst (λ v. At b y (FreeDeclarator v x)) is free)
+      (subst (λ v. At b y (SilentDeclarator v (node (binding_name x) m nothing value) (in_class_at b))) is silent) (subst (λ v. At b y (FreeDeclarator v x)) is free)
 
   pub no_value_stays : (x y : Tree) → t ≡ places.plug b (Some x) → f.keeps_unused ≡ false → ValueStays b x y → ⊥
   no_value_stays _ _ is unkept (value_is_stated how n m l j i o x k inner may item without own free) =

@@ -6,8 +6,6 @@ use Rattle.js_syntax.specs.declared.node_kind.NodeKind.TheVariants.{EmptyStateme
 use Rattle.js_syntax.specs.Node.{Forest, Tree, Note, nothing, node, alone}
 use Rattle.js_effects.specs.Silence.{may_have_effects}
 use Rattle.min_context.specs.Place.{Place, place_at, goes_on}
-use Rattle.min_pass.specs.declared.around.Around.{Around as Asked}
-use Rattle.min_pass.specs.Around.{outermost as asked_of_program}
 use Rattle.min_pass.specs.Pass.{unmarked}
 use Rattle.scope_laws.specs.Place.{first}
 use Rattle.scope_laws.proofs.Bindings.{same_value}
@@ -17,11 +15,11 @@ use Rattle.steps.specs.Allowed.Edits.{Edit, becomes, idle_body}
 use Rattle.steps.specs.Allowed.Places.{a_node}
 use Rattle.steps.specs.Allowed.SilentStatement.{a_statement}
 use Rattle.js_syntax.proofs.Truth.{not_true}
-use Rattle.rules.specs.DeadCode.Rules.{Facts, has_with, where_of, is_silent_statement, is_idle_body, becomes_empty, emptied}
+use Rattle.rules.specs.DeadCode.Rules.{Facts, surroundings_below, where_of, is_silent_statement, is_idle_body, becomes_empty, emptied}
 use Rattle.rules.specs.DeadCode.Knows.{Knows}
 use Rattle.rules.proofs.DeadCode.LaidOut.{is_laid_at, fits_laid, laid_here}
 use Rattle.rules.proofs.DeadCode.Bodies.{idle_empties}
-use Rattle.rules.proofs.DeadCode.Places.{to, asked_to, with_is}
+use Rattle.rules.proofs.DeadCode.Places.{to, surroundings_there}
 use Rattle.rules.proofs.DeadCode.Leaving.{statement_empties}
 use Rattle.rules.proofs.DeadCode.Items.{laid_there, becomes_there, knows_there}
 
@@ -34,8 +32,8 @@ silent_empties f marked a expression_statement n (node k l inner nothing) rest h
     let y = a_statement n l k inner in
     becomes_there a y (a_node empty_statement (unmarked n) nothing) rest
     (statement_empties f marked (to a (first rest)) n (unmarked n) l k inner (knows_there f marked a (first rest) y h)
-    (subst (λ b. may_have_effects f.bound b (alone k l inner) ≡ false) (sym (ap (λ (w : Asked). w.in_with) (asked_to (asked_of_program true) a (first rest)) ∙ with_is a (goes_on rest)))
-    (not_true (may_have_effects f.bound (has_with (place_at a (goes_on rest)).ancestors) (alone k l inner)) e)))
+    (subst (λ b. may_have_effects f.bound b (alone k l inner) ≡ false) (sym (surroundings_there a rest))
+    (not_true (may_have_effects f.bound (surroundings_below (place_at a (goes_on rest)).ancestors) (alone k l inner)) e)))
 silent_empties f marked a expression_statement n b rest h laid e = wrong laid
 silent_empties f marked a k n b rest h laid e = wrong e
 

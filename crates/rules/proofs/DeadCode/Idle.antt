@@ -6,8 +6,9 @@ use Rattle.js_syntax.specs.declared.node_kind.NodeKind.{NodeKind as Kind}
 use Rattle.js_syntax.specs.declared.node_kind.NodeKind.TheVariants.{ReferenceName as reference_name}
 use Rattle.js_syntax.specs.Node.{Forest, Tree, Note, nothing, node, absent}
 use Rattle.js_syntax.specs.declared.operator.UnaryOperator.TheVariants as unary
+use Rattle.js_effects.specs.declared.surroundings.Surroundings.{Surroundings}
 use Rattle.js_effects.specs.Still.{is_value}
-use Rattle.js_effects.specs.Silence.{runs_its_parts, is_marked, is_known, has_effect, may_have_effects}
+use Rattle.js_effects.specs.Silence.{is_one_name, runs_its_parts, is_marked, is_known, has_effect, may_have_effects}
 use Rattle.min_pass.specs.declared.around.Around.{Around as Asked}
 use Rattle.min_pass.specs.Around.{entered as asked_below, outermost as asked_of_program}
 use Rattle.scope_rules.specs.Context.{Context, inside, outermost}
@@ -75,23 +76,20 @@ find a x holds h =
 
 -- ---- what is silent
 
-idle_value : (v w k r b : Bool) → v ≡ true → (if v || (not w && k) then false else not r || b) ≡ false
-idle_value true w k r b e = refl
-idle_value false w k r b e = absurd (true≢false (sym e))
+idle_value : (v k r b : Bool) → v ≡ true → (if v || k then false else not r || b) ≡ false
+idle_value true k r b e = refl
+idle_value false k r b e = absurd (true≢false (sym e))
 
-idle_name : (v w k r b : Bool) → w ≡ false → k ≡ true → (if v || (not w && k) then false else not r || b) ≡ false
-idle_name true w k r b e f = refl
-idle_name false false true r b e f = refl
-idle_name false false false r b e f = absurd (true≢false (sym f))
-idle_name false true k r b e f = absurd (true≢false e)
+idle_name : (v k r b : Bool) → k ≡ true → (if v || k then false else not r || b) ≡ false
+idle_name true k r b e = refl
+idle_name false true r b e = refl
+idle_name false false r b e = absurd (true≢false (sym e))
 
-idle_parts : (v w k r b : Bool) → r ≡ true → b ≡ false → (if v || (not w && k) then false else not r || b) ≡ false
-idle_parts true w k r b e f = refl
-idle_parts false false true r b e f = refl
-idle_parts false false false true b e f = f
-idle_parts false false false false b e f = absurd (true≢false (sym e))
-idle_parts false true k true b e f = f
-idle_parts false true k false b e f = absurd (true≢false (sym e))
+idle_parts : (v k r b : Bool) → r ≡ true → b ≡ false → (if v || k then false else not r || b) ≡ false
+idle_parts true k r b e f = refl
+idle_parts false true r b e f = refl
+idle_parts false false true b e f = f
+idle_parts false false false b e f = absurd (true≢false (sym e))
 
 some_value : {X : Type 0} (o : Option X) → is_some o ≡ true → (x : X) × (o ≡ Some x)
 some_value None e = absurd (true≢false (sym e))
@@ -113,19 +111,25 @@ module _ (f : Facts) (t : Forest) (h : Knows f unmarked t) where
       ap (λ (x : Reference). is_some x.symbol) (get_or_from_slice_get f.scoping.references entered.id entered.entry no_reference entered.stands) ∙ ap is_some symbol in
       ap (is_marked f.bound) entered.has_id ∙ h.bound entered.id ∙ answer
 
-  known : (cs : ℕ → Context) (at next : ℕ) (k : Kind) (n : Note) (below rest : Forest) → AllOf (references_among (sites_of t)) (sites cs at next (node k n below rest)) → IsFound (bindings_among (sites_of t)) (cs at) k n below → is_known f.bound k n below ≡ true
-  known cs at next (reference_name x) n below rest m (inl e) = or_left (is_marked f.bound n.id) (bytes_eq x (codes "undefined")) (bound_marked (read_in (cs at) n x) (m (read_in (cs at) n x) (inl refl)) e)
-  known cs at next (reference_name x) n below rest m (inr e) = or_right (is_marked f.bound n.id) (bytes_eq x (codes "undefined")) e
-  known cs at next (Kind.UnaryExpression unary.Typeof) n below rest m e = e
-  known cs at next k n below rest m e = absurd e
+  known : (w : Surroundings) (cs : ℕ → Context) (at next : ℕ) (k : Kind) (n : Note) (below rest : Forest) → AllOf (references_among (sites_of t)) (sites cs at next (node k n below rest)) → IsFound (bindings_among (sites_of t)) w (cs at) k n below
+      → is_known f.bound w k n below ≡ true
+  known w cs at next (reference_name x) n below rest m e =
+      let named = is_marked f.bound n.id || bytes_eq x (codes "undefined") in
+      or_left (not w.in_with && named) (not w.in_class && false) (and_from (not w.in_with) named (ap not e.0) (elim e.1 [
+        | inl h ↦ or_left (is_marked f.bound n.id) (bytes_eq x (codes "undefined")) (bound_marked (read_in (cs at) n x) (m (read_in (cs at) n x) (inl refl)) h)
+        | inr h ↦ or_right (is_marked f.bound n.id) (bytes_eq x (codes "undefined")) h
+      ]))
+  known w cs at next (Kind.UnaryExpression unary.Typeof) n below rest m e = or_left (not w.in_with && is_one_name below) (not w.in_class && false) (and_from (not w.in_with) (is_one_name below) (ap not e.0) e.1)
+  known w cs at next Kind.ThisExpression n below rest m e = or_right (not w.in_with && false) (not w.in_class && true) (and_from (not w.in_class) true (ap not e) refl)
+  known w cs at next k n below rest m e = absurd e
 
-  idle_node : (w : Bool) (cs : ℕ → Context) (at next : ℕ) (k : Kind) (n : Note) (below rest : Forest) (parts : Type 0) → AllOf (references_among (sites_of t)) (sites cs at next (node k n below rest)) → (parts → may_have_effects f.bound w below ≡ false)
+  idle_node : (w : Surroundings) (cs : ℕ → Context) (at next : ℕ) (k : Kind) (n : Note) (below rest : Forest) (parts : Type 0) → AllOf (references_among (sites_of t)) (sites cs at next (node k n below rest)) → (parts → may_have_effects f.bound w below ≡ false)
       → IsSilentNode (bindings_among (sites_of t)) w (cs at) k n below parts → has_effect f.bound w k n below (may_have_effects f.bound w below) ≡ false
-  idle_node w cs at next k n below rest parts m g (inl e) = idle_value (is_value k) w (is_known f.bound k n below) (runs_its_parts k below) (may_have_effects f.bound w below) e
-  idle_node w cs at next k n below rest parts m g (inr (inl e)) = idle_name (is_value k) w (is_known f.bound k n below) (runs_its_parts k below) (may_have_effects f.bound w below) e.0 (known cs at next k n below rest m e.1)
-  idle_node w cs at next k n below rest parts m g (inr (inr e)) = idle_parts (is_value k) w (is_known f.bound k n below) (runs_its_parts k below) (may_have_effects f.bound w below) e.0 (g e.1)
+  idle_node w cs at next k n below rest parts m g (inl e) = idle_value (is_value k) (is_known f.bound w k n below) (runs_its_parts k below) (may_have_effects f.bound w below) e
+  idle_node w cs at next k n below rest parts m g (inr (inl e)) = idle_name (is_value k) (is_known f.bound w k n below) (runs_its_parts k below) (may_have_effects f.bound w below) (known w cs at next k n below rest m e)
+  idle_node w cs at next k n below rest parts m g (inr (inr e)) = idle_parts (is_value k) (is_known f.bound w k n below) (runs_its_parts k below) (may_have_effects f.bound w below) e.0 (g e.1)
 
-  pub idle_row : (w : Bool) (cs : ℕ → Context) (at next : ℕ) (row : Forest) → AllOf (references_among (sites_of t)) (sites cs at next row) → IsSilent (bindings_among (sites_of t)) w cs at next row → may_have_effects f.bound w row ≡ false
+  pub idle_row : (w : Surroundings) (cs : ℕ → Context) (at next : ℕ) (row : Forest) → AllOf (references_among (sites_of t)) (sites cs at next row) → IsSilent (bindings_among (sites_of t)) w cs at next row → may_have_effects f.bound w row ≡ false
   idle_row w cs at next nothing m e = refl
   idle_row w cs at next (absent rest) m e = idle_row w cs (suc at) next rest m e
   idle_row w cs at next (node k n below rest) m e =

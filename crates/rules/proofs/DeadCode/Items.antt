@@ -1,5 +1,5 @@
 -- Places of the items of a list of statements, and of the declarators of such items.
-use Rattle.std.proofs.Common.{◌≡◌, ◌∙◌, ℕ, suc, Bool, true, false, ◌||◌, Option, Some, refl, sym, ap, subst}
+use Rattle.std.proofs.Common.{◌≡◌, ◌∙◌, ℕ, suc, Bool, true, false, ◌||◌, Option, Some, refl, sym, ap, ap₂, subst}
 use Rattle.js_syntax.specs.declared.node_kind.NodeKind.{NodeKind as Kind}
 use Rattle.js_syntax.specs.declared.node_kind.NodeKind.TheVariants.{Statements as statements, VariableDeclaration as variable_declaration, Declarators as declarators}
 use Rattle.js_syntax.specs.declared.kind.VariableKind.{VariableKind}
@@ -18,13 +18,14 @@ use Rattle.scope_laws.specs.Lists.{without}
 use Rattle.scope_counts.specs.Edits as counts
 use Rattle.scope_counts.specs.Edits.{here, behind, behind_none, under, plug}
 use Rattle.steps.specs.Allowed.Edits.{Edit}
-use Rattle.steps.specs.Allowed.Places.{asked_at, has_node, has_other, IsItem, IsDeclarator}
+use Rattle.steps.specs.Allowed.Silent.{inside_of}
+use Rattle.steps.specs.Allowed.Places.{asked_at, surroundings_asked, surroundings_at, has_node, has_other, IsItem, IsDeclarator}
 use Rattle.steps.specs.Marked.Flags.{Stand, declares_in, stand_inside, stand}
 use Rattle.js_syntax.proofs.Truth.{or_false}
-use Rattle.rules.specs.DeadCode.Rules.{Facts, Where, has_with, where_of, scope_of}
+use Rattle.rules.specs.DeadCode.Rules.{Facts, Where, has_with, has_class, where_of, surroundings_of, surroundings_below, scope_of}
 use Rattle.rules.specs.DeadCode.Knows.{Knows}
 use Rattle.rules.proofs.DeadCode.LaidOut.{is_laid, fits_laid, laid_below, laid_rest}
-use Rattle.rules.proofs.DeadCode.Places.{to, plugged, left_out, join, spot_join, asked_row, asked_to, asked_join, other_under, is_row, has_before, asked_along, other_stands, other_behind, with_last, with_is}
+use Rattle.rules.proofs.DeadCode.Places.{to, plugged, left_out, join, spot_join, asked_row, asked_to, asked_join, other_under, is_row, has_before, asked_along, other_stands, other_behind, with_last, class_last, surroundings_are}
 use Rattle.rules.proofs.DeadCode.Numbers.{Same, declares_there, whole_stand, numbers, stand_to, stand_along}
 use Rattle.rules.proofs.DeadCode.Keeping.{Known}
 
@@ -81,28 +82,32 @@ absent_items p a h = record {
 }
 
 -- what the rules are asked with is that of the list's own place
-where_with : (p : Place) (in_with : Bool) → in_with ≡ has_with p.ancestors → (record { scope = p.scope; hoist_scope = p.hoist_scope; in_with = in_with }) ≡ where_of p
-where_with p in_with e = ap (λ b. let w : Where = record { scope = p.scope; hoist_scope = p.hoist_scope; in_with = b } in w) e
+where_with : (p : Place) (in_with in_class : Bool) → in_with ≡ has_with p.ancestors → in_class ≡ has_class p.ancestors → (record { scope = p.scope; hoist_scope = p.hoist_scope; in_with = in_with; in_class = in_class }) ≡ where_of p
+where_with p in_with in_class e g = ap₂ (λ b c. let w : Where = record { scope = p.scope; hoist_scope = p.hoist_scope; in_with = b; in_class = c } in w) e g
 
 listed_with : (p : Place) (n : Note) (at : ℕ) (previous more : Bool) → has_with (place_of (listed p n at previous) more).ancestors ≡ has_with p.ancestors
 listed_with p n at previous more = with_last p.ancestors (field (told_of parent.Statements at previous more) at) ∙ or_false (has_with p.ancestors)
 
+listed_class : (p : Place) (n : Note) (at : ℕ) (previous more : Bool) → has_class (place_of (listed p n at previous) more).ancestors ≡ has_class p.ancestors
+listed_class p n at previous more = class_last p.ancestors (field (told_of parent.Statements at previous more) at) ∙ or_false (has_class p.ancestors)
+
 listed_where : (p : Place) (n : Note) (at : ℕ) (previous more : Bool) → where_of (place_of (listed p n at previous) more) ≡ where_of p
-listed_where p n at previous more = where_with p (has_with (place_of (listed p n at previous) more).ancestors) (listed_with p n at previous more)
+listed_where p n at previous more =
+    where_with p (has_with (place_of (listed p n at previous) more).ancestors) (has_class (place_of (listed p n at previous) more).ancestors) (listed_with p n at previous more) (listed_class p n at previous more)
 
 pub items_where : (p : Place) (a : counts.Around) (more : Bool) → IsItems p a → where_of (place_at a more) ≡ where_of p
 items_where p a more h = ap (λ s. where_of (place_of s more)) h.spot_is ∙ listed_where p h.note h.at h.previous more
 
-pub row_with : (p : Place) (a : counts.Around) → IsItems p a → (asked_row (asked_of_program true) a).in_with ≡ has_with p.ancestors
-row_with p a h = with_is a false ∙ ap (λ (w : Where). w.in_with) (items_where p a false h)
+row_surroundings : (p : Place) (a : counts.Around) → IsItems p a → surroundings_asked (asked_row (asked_of_program true) a) ≡ surroundings_below p.ancestors
+row_surroundings p a h = surroundings_are a false ∙ ap surroundings_of (items_where p a false h)
 
 -- ---- as edits ask for it
 
 pub item_there : (p : Place) (a : counts.Around) (rest : Forest) → IsItems p a → IsItem (to a (first rest))
 item_there p a rest h = ap (λ (w : Asked). w.row) (asked_to (asked_of_program true) a (first rest)) ∙ h.row_is
 
-pub item_with : (p : Place) (a : counts.Around) (rest : Forest) → IsItems p a → (asked_at (asked_of_program true) (to a (first rest))).in_with ≡ has_with p.ancestors
-item_with p a rest h = ap (λ (w : Asked). w.in_with) (asked_to (asked_of_program true) a (first rest)) ∙ row_with p a h
+pub item_surroundings : (p : Place) (a : counts.Around) (rest : Forest) → IsItems p a → surroundings_at (to a (first rest)) ≡ surroundings_below p.ancestors
+item_surroundings p a rest h = ap surroundings_asked (asked_to (asked_of_program true) a (first rest)) ∙ row_surroundings p a h
 
 pub leaves_there : (a : counts.Around) (x : Option Tree) (rest : Forest) → Edit (places.plug (to a (first rest)) x) (without (to a (first rest))) → Edit (plug a (placed x rest)) (plug a rest)
 leaves_there a x rest e = subst (λ u. Edit (plug a (placed x rest)) u) (left_out a (first rest)) (subst (λ t. Edit t (without (to a (first rest)))) (plugged a (first rest) x) e)
@@ -159,10 +164,10 @@ module _ (a d : counts.Around) (how : VariableKind) (n m : Note) (more rest : Fo
   pub declarator_there : (p : Place) → IsItems p a → is_row d ≡ true → IsDeclarator (to a (in_declaration how n m d more rest))
   declarator_there p h e = ap (λ (w : Asked). w.row) (declarator_asked e) ∙ ap (λ r. row_below (row_below r (variable_declaration how)) declarators) h.row_is
 
-  pub declarator_with : (p : Place) → IsItems p a → is_row d ≡ true → (asked_at (asked_of_program true) (to a (in_declaration how n m d more rest))).in_with ≡ has_with p.ancestors
-  declarator_with p h e =
-      let b = (asked_row (asked_of_program true) a).in_with in
-      ap (λ (w : Asked). w.in_with) (declarator_asked e) ∙ or_false (b || false) ∙ or_false b ∙ row_with p a h
+  pub declarator_surroundings : (p : Place) → IsItems p a → is_row d ≡ true → surroundings_at (to a (in_declaration how n m d more rest)) ≡ surroundings_below p.ancestors
+  declarator_surroundings p h e =
+      let w = asked_row (asked_of_program true) a in
+      ap surroundings_asked (declarator_asked e) ∙ ap₂ inside_of (or_false (w.in_class || false) ∙ or_false w.in_class) (or_false (w.in_with || false) ∙ or_false w.in_with) ∙ row_surroundings p a h
 
   pub declarator_other : is_row d ≡ true → (has_before d ≡ true) → has_other false (to a (in_declaration how n m d more rest)) ≡ true
   declarator_other e f = other_under false a (variable_declaration how) n (places.under declarators m (to d (first more)) nothing) rest ∙ other_stands d more e f

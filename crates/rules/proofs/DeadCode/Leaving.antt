@@ -7,8 +7,8 @@ use Rattle.js_syntax.specs.declared.kind.VariableKind.{VariableKind}
 use Rattle.js_syntax.specs.declared.kind.FunctionKind.TheVariants as function_kind
 use Rattle.js_syntax.specs.declared.kind.VariableKind.TheVariants as variable
 use Rattle.js_syntax.specs.Node.{Forest, Tree, Note, nothing, node, alone}
+use Rattle.js_effects.specs.declared.surroundings.Surroundings.{Surroundings}
 use Rattle.js_effects.specs.Silence.{may_have_effects}
-use Rattle.min_pass.specs.Around.{outermost as asked_of_program}
 use Rattle.min_pass.specs.Pass.{is_given}
 use Rattle.scope_rules.specs.Context.{Context, inside}
 use Rattle.scope_rules.specs.ScopeFlags as scope_flag
@@ -18,7 +18,7 @@ use Rattle.scope_laws.specs.Place.{Around, plug}
 use Rattle.scope_laws.specs.Lists.{without}
 use Rattle.steps.proofs.Naming.Sites.{binding_second}
 use Rattle.steps.specs.Allowed.Exposure.{is_script, evaluates_somewhere, IsOwnDeclarator, IsOwnDeclaration}
-use Rattle.steps.specs.Allowed.Places.{a_node, asked_at, IsItem, IsDeclarator, has_other, At}
+use Rattle.steps.specs.Allowed.Places.{a_node, in_class_at, surroundings_at, IsItem, IsDeclarator, has_other, At}
 use Rattle.steps.specs.Allowed.Free.{IsFree, Free, FreeDeclarator}
 use Rattle.steps.specs.Allowed.EmptyStatement.{empty_statement_leaves}
 use Rattle.steps.specs.Allowed.EmptyBlock.{EmptyBlock}
@@ -49,20 +49,20 @@ empty_leaves a n item = leaves a (record { kind = empty_statement; note = n; bel
 pub block_leaves : (a : Around) (x : Tree) → EmptyBlock a x → Edit (plug a (Some x)) (without a)
 block_leaves a x held = leaves a x (edits.empty_block held)
 
-pub statement_silent : (f : Facts) (marked : ℕ → Bool) (a : Around) (n l : Note) (k : Kind) (inner : Forest) → Knows f marked (plug a (a_statement n l k inner)) → may_have_effects f.bound (asked_at (asked_of_program true) a).in_with (alone k l inner) ≡ false
-    → At a (a_statement n l k inner) (SilentStatement (plug a (a_statement n l k inner)) (alone k l inner))
+pub statement_silent : (f : Facts) (marked : ℕ → Bool) (a : Around) (n l : Note) (k : Kind) (inner : Forest) → Knows f marked (plug a (a_statement n l k inner)) → may_have_effects f.bound (surroundings_at a) (alone k l inner) ≡ false
+    → At a (a_statement n l k inner) (SilentStatement (plug a (a_statement n l k inner)) (alone k l inner) (in_class_at a))
 statement_silent f marked a n l k inner h silent =
     let e = alone k l inner in
     let v = plug a (a_statement n l k inner) in
     let all = references_among (sites_of v) in
-    silent_at a (a_statement n l k inner) (SilentStatement v e)
+    silent_at a (a_statement n l k inner) (SilentStatement v e (in_class_at a))
     (λ ds place before all_of.
     let own = own_sites (ds place) n expression_statement e in
     let below = sites (inside (ds place) before expression_statement e) 0 (before + opens_one expression_statement e) e in
-    silent_row f.bound v (known_binds f marked v h) (asked_at (asked_of_program true) a).in_with (inside (ds place) before expression_statement e) 0 (before + opens_one expression_statement e) e
+    silent_row f.bound v (known_binds f marked v h) (surroundings_at a) (inside (ds place) before expression_statement e) 0 (before + opens_one expression_statement e) e
     (of_right all own below (of_left all (own ++ below) [] all_of)) silent)
 
-pub statement_empties : (f : Facts) (marked : ℕ → Bool) (a : Around) (n m l : Note) (k : Kind) (inner : Forest) → Knows f marked (plug a (a_statement n l k inner)) → may_have_effects f.bound (asked_at (asked_of_program true) a).in_with (alone k l inner) ≡ false
+pub statement_empties : (f : Facts) (marked : ℕ → Bool) (a : Around) (n m l : Note) (k : Kind) (inner : Forest) → Knows f marked (plug a (a_statement n l k inner)) → may_have_effects f.bound (surroundings_at a) (alone k l inner) ≡ false
     → Edit (plug a (a_statement n l k inner)) (plug a (a_node empty_statement m nothing))
 statement_empties f marked a n m l k inner h silent =
     becomes a (record { kind = expression_statement; note = n; below = alone k l inner }) (record { kind = empty_statement; note = m; below = nothing })
@@ -100,11 +100,11 @@ function_leaves f marked w a pure n m x rest h item is e =
 -- ---- declarators
 
 -- as `is_quiet` asks it
-abbrev pub Quiet : Facts → Bool → Forest → Type 0
-Quiet f in_with value = (may_have_effects f.bound in_with value || in_with && is_given value) ≡ false
+abbrev pub Quiet : Facts → Surroundings → Forest → Type 0
+Quiet f w value = (may_have_effects f.bound w value || w.in_with && is_given value) ≡ false
 
-silent_behind : (f : Facts) (v : Forest) → Binds f.bound v → (w : Bool) (cs : ℕ → Context) (at next : ℕ) (n m : Note) (x : List ℕ) (value : Forest)
-    → AllOf (references_among (sites_of v)) (sites cs at next (node variable_declarator n (node (binding_name x) m nothing value) nothing)) → Quiet f w value → SilentDeclarator v (node (binding_name x) m nothing value) w (cs at) next
+silent_behind : (f : Facts) (v : Forest) → Binds f.bound v → (w : Surroundings) (cs : ℕ → Context) (at next : ℕ) (n m : Note) (x : List ℕ) (value : Forest)
+    → AllOf (references_among (sites_of v)) (sites cs at next (node variable_declarator n (node (binding_name x) m nothing value) nothing)) → Quiet f w value → SilentDeclarator v (node (binding_name x) m nothing value) w.in_class w.in_with (cs at) next
 silent_behind f v binds w cs at next n m x value all_of e =
     let below = node (binding_name x) m nothing value in
     let all = references_among (sites_of v) in
@@ -113,10 +113,10 @@ silent_behind f v binds w cs at next n m x value all_of e =
     let place = next + opens_one variable_declarator below in
     let name = own_sites (ds 0) m (binding_name x) nothing ++ sites (inside (ds 0) place (binding_name x) nothing) 0 (place + 0) nothing in
     let behind = sites ds 1 (place + scope_count (node (binding_name x) m nothing nothing)) value in (
-      second_of_neither (may_have_effects f.bound w value) (w && is_given value) e,
+      second_of_neither (may_have_effects f.bound w value) (w.in_with && is_given value) e,
       silent_row f.bound v binds w ds 1 (place + scope_count (node (binding_name x) m nothing nothing)) value
           (of_right all name behind (of_right all own (name ++ behind) (of_left all (own ++ (name ++ behind)) [] all_of)))
-          (first_of_neither (may_have_effects f.bound w value) (w && is_given value) e),
+          (first_of_neither (may_have_effects f.bound w value) (w.in_with && is_given value) e),
     )
 
 pub record Hidden (f : Facts) (scope : ℕ) (symbol : Option ℕ) (v : Forest) : Type 0 where
@@ -137,18 +137,18 @@ hidden f marked v h scope symbol e =
 -- what is to be true of a declarator that goes, whether others stand beside it or not
 pub record IsUnused (a : Around) (n m : Note) (x : List ℕ) (value : Forest) : Type 0 where
   pub own : IsOwnDeclarator a (a_declarator n m x value)
-  pub silent : At a (a_declarator n m x value) (SilentDeclarator (plug a (a_declarator n m x value)) (node (binding_name x) m nothing value))
+  pub silent : At a (a_declarator n m x value) (SilentDeclarator (plug a (a_declarator n m x value)) (node (binding_name x) m nothing value) (in_class_at a))
   pub free : At a (a_declarator n m x value) (FreeDeclarator (plug a (a_declarator n m x value)) x)
 
 pub declarator_unused : (f : Facts) (marked : ℕ → Bool) (scope : ℕ) (a : Around) (n m : Note) (x : List ℕ) (value : Forest) → Knows f marked (plug a (a_declarator n m x value)) → (stand a (a_declarator n m x value)).declaring ≡ Some scope
-    → variable_is_unused f scope m.id ≡ true → Quiet f (asked_at (asked_of_program true) a).in_with value → IsUnused a n m x value
+    → variable_is_unused f scope m.id ≡ true → Quiet f (surroundings_at a) value → IsUnused a n m x value
 declarator_unused f marked scope a n m x value h is e quiet =
     let below = node (binding_name x) m nothing value in
     let v = plug a (a_declarator n m x value) in
     let o = hidden f marked v h scope m.id e in
     record {
       own = declarator_hidden a (record { kind = variable_declarator; note = n; below = below }) f.scoping h.flags scope is o.unshared o.no_evals;
-      silent = silent_at a (a_declarator n m x value) (SilentDeclarator v below) (λ cs at next all_of. silent_behind f v (known_binds f marked v h) (asked_at (asked_of_program true) a).in_with cs at next n m x value all_of quiet);
+      silent = silent_at a (a_declarator n m x value) (SilentDeclarator v below (in_class_at a)) (λ cs at next all_of. silent_behind f v (known_binds f marked v h) (surroundings_at a) cs at next n m x value all_of quiet);
       free = declared_at a (a_declarator n m x value) (FreeDeclarator v x)
           (λ in_with cs place next all_of.
           let fs = inside (cs place) next variable_declarator below in
@@ -157,7 +157,7 @@ declarator_unused f marked scope a n m x value h is e quiet =
     }
 
 pub declarator_leaves : (f : Facts) (marked : ℕ → Bool) (scope : ℕ) (a : Around) (n m : Note) (x : List ℕ) (value : Forest) → Knows f marked (plug a (a_declarator n m x value)) → IsDeclarator a → has_other false a ≡ true
-    → (stand a (a_declarator n m x value)).declaring ≡ Some scope → variable_is_unused f scope m.id ≡ true → Quiet f (asked_at (asked_of_program true) a).in_with value → Edit (plug a (a_declarator n m x value)) (without a)
+    → (stand a (a_declarator n m x value)).declaring ≡ Some scope → variable_is_unused f scope m.id ≡ true → Quiet f (surroundings_at a) value → Edit (plug a (a_declarator n m x value)) (without a)
 declarator_leaves f marked scope a n m x value h declarator other_stays is e quiet =
     let o = declarator_unused f marked scope a n m x value h is e quiet in
     leaves a (record { kind = variable_declarator; note = n; below = node (binding_name x) m nothing value }) (unused_declarator (unused_declarator_leaves n m x value declarator other_stays o.own o.silent o.free))
@@ -191,7 +191,7 @@ declaration_unused f marked scope a how n m l j x value h is e =
     }
 
 pub declaration_leaves : (f : Facts) (marked : ℕ → Bool) (scope : ℕ) (a : Around) (how : VariableKind) (n m l j : Note) (x : List ℕ) (value : Forest) → Knows f marked (plug a (a_declaration how n m l j x value)) → IsItem a
-    → declares_in (stand a (a_declaration how n m l j x value)) how ≡ Some scope → variable_is_unused f scope j.id ≡ true → Quiet f (asked_at (asked_of_program true) a).in_with value → Edit (plug a (a_declaration how n m l j x value)) (without a)
+    → declares_in (stand a (a_declaration how n m l j x value)) how ≡ Some scope → variable_is_unused f scope j.id ≡ true → Quiet f (surroundings_at a) value → Edit (plug a (a_declaration how n m l j x value)) (without a)
 declaration_leaves f marked scope a how n m l j x value h item is e quiet =
     let y = a_declaration how n m l j x value in
     let v = plug a y in
@@ -202,7 +202,7 @@ declaration_leaves f marked scope a how n m l j x value h item is e quiet =
     let whole = one_declarator m l below in
     leaves a (record { kind = variable_declaration how; note = n; below = whole })
     (unused_declaration (unused_declaration_leaves how n m l j x value item o.own
-    (silent_at a y (SilentDeclaration v how m l below)
+    (silent_at a y (SilentDeclaration v how m l below (in_class_at a))
     (λ cs at next all_of.
     let place = next + opens_one (variable_declaration how) whole in
     let outer = inside (cs at) next (variable_declaration how) whole in
@@ -210,7 +210,7 @@ declaration_leaves f marked scope a how n m l j x value h item is e quiet =
     let declarator = sites list 0 (place + opens_one declarators ds) ds in
     let own_list = own_sites (outer 0) m declarators ds in
     let own = own_sites (cs at) n (variable_declaration how) whole in
-    silent_behind f v (known_binds f marked v h) (asked_at (asked_of_program true) a).in_with list 0 (place + opens_one declarators ds) l j x value
+    silent_behind f v (known_binds f marked v h) (surroundings_at a) list 0 (place + opens_one declarators ds) l j x value
     (of_right all own_list declarator (of_left all (own_list ++ declarator) [] (of_right all own ((own_list ++ declarator) ++ []) (of_left all (own ++ ((own_list ++ declarator) ++ [])) [] all_of))))
     quiet))
     o.free))

@@ -1,5 +1,5 @@
 -- Places below the place of a row.
-use Rattle.std.proofs.Common.{◌≡◌, ◌∙◌, ℕ, List, [], ◌∷◌, ◌++◌, Bool, true, false, ◌||◌, Option, true≢false, refl, sym, ap, subst}
+use Rattle.std.proofs.Common.{◌≡◌, ◌∙◌, ℕ, List, [], ◌∷◌, ◌++◌, Bool, true, false, ◌||◌, Option, true≢false, refl, sym, ap, ap₂, subst}
 use Rattle.js_syntax.specs.declared.node_kind.NodeKind.{NodeKind as Kind}
 use Rattle.js_syntax.specs.Node.{Forest, Tree, Note, node, absent}
 use Rattle.min_context.specs.Above.{parent_of, above_of}
@@ -7,13 +7,14 @@ use Rattle.min_context.specs.Place.{told_of, Spot, place_below, place_of, next_o
 use Rattle.min_context.specs.declared.ancestor.Ancestor.{Ancestor}
 use Rattle.min_context.specs.declared.ancestor.Ancestor.TheVariants.{Field as field}
 use Rattle.min_pass.specs.declared.around.Around.{Around as Asked}
-use Rattle.min_pass.specs.Around.{is_with, entered as asked_below, outermost as asked_of_program}
+use Rattle.min_pass.specs.Around.{is_with, is_class, entered as asked_below, outermost as asked_of_program}
 use Rattle.scope_laws.specs.Place as places
 use Rattle.scope_laws.specs.Place.{Around, first}
 use Rattle.scope_laws.specs.Lists.{without}
 use Rattle.scope_counts.specs.Edits as counts
-use Rattle.steps.specs.Allowed.Places.{asked_at, has_node, has_other}
-use Rattle.rules.specs.DeadCode.Rules.{is_field_of_with, has_with}
+use Rattle.steps.specs.Allowed.Places.{asked_at, surroundings_asked, surroundings_at, has_node, has_other}
+use Rattle.steps.specs.Allowed.Silent.{inside_of}
+use Rattle.rules.specs.DeadCode.Rules.{is_field_of_with, has_with, is_field_of_class, has_class, surroundings_below}
 
 -- ---- the place b of a row that stands at the place a
 
@@ -163,3 +164,34 @@ with_row w s (counts.under k n a rest) more h =
 
 pub with_is : (a : counts.Around) (more : Bool) → (asked_row (asked_of_program true) a).in_with ≡ has_with (place_at a more).ancestors
 with_is a more = with_row (asked_of_program true) top a more (λ at previous more. refl)
+
+-- ---- whether a class is around
+
+field_of_class : (k : Kind) (at : ℕ) (previous more : Bool) → is_field_of_class (field (told_of (parent_of k) at previous more) at) ≡ is_class k
+field_of_class (Kind.Class how) at previous more = refl
+field_of_class k at previous more = refl
+
+pub class_last : (above : List Ancestor) (a : Ancestor) → has_class (above ++ (a ∷ [])) ≡ has_class above || is_field_of_class a
+class_last [] a = sym (or_false (is_field_of_class a))
+class_last (b ∷ above) a = ap (λ c. is_field_of_class b || c) (class_last above a) ∙ or_associates (is_field_of_class b) (has_class above) (is_field_of_class a)
+
+class_row : (w : Asked) (s : Spot) (a : counts.Around) (more : Bool) → ((at : ℕ) (previous more : Bool) → w.in_class ≡ has_class (place_below s.outer s.above at previous more).ancestors) → (asked_row w a).in_class ≡ has_class (place_of (spot s a) more).ancestors
+class_row w s counts.here more h = h s.at s.previous more
+class_row w s (counts.behind k n c a) more h = class_row w (next_of s true) a more h
+class_row w s (counts.behind_none a) more h = class_row w (next_of s false) a more h
+class_row w s (counts.under k n a rest) more h =
+    let p = place_of s (goes_on rest) in
+    class_row (asked_below w k) (below p (above_of k n)) a more
+    (λ at previous more. ap (λ b. b || is_class k) (h s.at s.previous (goes_on rest)) ∙ ap (λ b. has_class p.ancestors || b) (sym (field_of_class k at previous more)) ∙ sym (class_last p.ancestors (field (told_of (parent_of k) at previous more) at)))
+
+class_is : (a : counts.Around) (more : Bool) → (asked_row (asked_of_program true) a).in_class ≡ has_class (place_at a more).ancestors
+class_is a more = class_row (asked_of_program true) top a more (λ at previous more. refl)
+
+-- ---- both
+
+pub surroundings_are : (a : counts.Around) (more : Bool) → surroundings_asked (asked_row (asked_of_program true) a) ≡ surroundings_below (place_at a more).ancestors
+surroundings_are a more = ap₂ inside_of (class_is a more) (with_is a more)
+
+-- at the place of a node
+pub surroundings_there : (a : counts.Around) (rest : Forest) → surroundings_at (to a (first rest)) ≡ surroundings_below (place_at a (goes_on rest)).ancestors
+surroundings_there a rest = ap surroundings_asked (asked_to (asked_of_program true) a (first rest)) ∙ surroundings_are a (goes_on rest)

@@ -6,8 +6,10 @@ use Rattle.js_syntax.specs.declared.node_kind.NodeKind.{NodeKind as Kind}
 use Rattle.js_syntax.specs.declared.node_kind.NodeKind.TheVariants.{ReferenceName as reference_name}
 use Rattle.js_syntax.specs.Node.{Forest, Tree, Note, nothing, node, absent}
 use Rattle.js_syntax.specs.declared.operator.UnaryOperator.TheVariants as unary
+use Rattle.js_effects.specs.declared.surroundings.Surroundings.{Surroundings}
 use Rattle.js_effects.specs.Still.{is_value}
-use Rattle.js_effects.specs.Silence.{runs_its_parts, is_marked, is_known, has_effect, may_have_effects}
+use Rattle.js_effects.specs.Silence.{runs_its_parts, is_marked, is_known_name, is_this, is_known, has_effect, may_have_effects}
+use Rattle.js_effects.proofs.Sorts.{by_sort, known_by}
 use Rattle.min_pass.specs.declared.around.Around.{Around as Asked}
 use Rattle.min_pass.specs.Around.{is_with, entered as asked_below, outermost as asked_of_program}
 use Rattle.scope_rules.specs.Context.{Context, inside, outermost}
@@ -71,33 +73,40 @@ known_binds f marked v h r stands is =
 
 -- ---- by the sort of node
 
-abbrev IsIdle : (v w k r b : Bool) → Type 0
-IsIdle v w k r b = (v ≡ true) ⊎ (((w ≡ false) × (k ≡ true)) ⊎ ((r ≡ true) × (b ≡ false)))
-
-idle : (v w k r b : Bool) → (if v || (not w && k) then false else not r || b) ≡ false → IsIdle v w k r b
-idle true w k r b e = inl refl
-idle false false true r b e = inr (inl (refl, refl))
-idle false false false true b e = inr (inr (refl, e))
-idle false false false false b e = absurd (true≢false e)
-idle false true k true b e = inr (inr (refl, e))
-idle false true k false b e = absurd (true≢false e)
+abbrev IsIdle : (v k r b : Bool) → Type 0
+IsIdle v k r b = (v ≡ true) ⊎ ((k ≡ true) ⊎ ((r ≡ true) × (b ≡ false)))
 
 module _ (bound : List Bool) (v : Forest) (binds : Binds bound v) where
-  found : (cs : ℕ → Context) (at next : ℕ) (k : Kind) (n : Note) (below rest : Forest) → AllOf (references_among (sites_of v)) (sites cs at next (node k n below rest)) → is_known bound k n below ≡ true → IsFound (bindings_among (sites_of v)) (cs at) k n below
-  found cs at next (reference_name x) n below rest m e = elim (or_cases (is_marked bound n.id) (bytes_eq x (codes "undefined")) e) [
-    | inl h ↦ inl (binds (read_in (cs at) n x) (m (read_in (cs at) n x) (inl refl)) h)
-    | inr h ↦ inr h
-  ]
-  found cs at next (Kind.UnaryExpression unary.Typeof) n below rest m e = e
-  found cs at next k n below rest m e = absurd (true≢false (sym e))
+  name_found : (w : Surroundings) (cs : ℕ → Context) (at next : ℕ) (k : Kind) (n : Note) (below rest : Forest) → AllOf (references_among (sites_of v)) (sites cs at next (node k n below rest)) → w.in_with ≡ false → is_known_name bound k n below ≡ true
+      → IsFound (bindings_among (sites_of v)) w (cs at) k n below
+  name_found w cs at next (reference_name x) n below rest m outside e = (
+    outside,
+    elim (or_cases (is_marked bound n.id) (bytes_eq x (codes "undefined")) e) [
+      | inl h ↦ inl (binds (read_in (cs at) n x) (m (read_in (cs at) n x) (inl refl)) h)
+      | inr h ↦ inr h
+    ],
+  )
+  name_found w cs at next (Kind.UnaryExpression unary.Typeof) n below rest m outside e = (outside, e)
+  name_found w cs at next k n below rest m outside e = absurd (true≢false (sym e))
 
-  silent_node : (w : Bool) (cs : ℕ → Context) (at next : ℕ) (k : Kind) (n : Note) (below rest : Forest) (parts : Type 0) → AllOf (references_among (sites_of v)) (sites cs at next (node k n below rest)) → (may_have_effects bound w below ≡ false → parts)
-      → IsIdle (is_value k) w (is_known bound k n below) (runs_its_parts k below) (may_have_effects bound w below) → IsSilentNode (bindings_among (sites_of v)) w (cs at) k n below parts
+  this_found : (w : Surroundings) (c : Context) (k : Kind) (n : Note) (below : Forest) → w.in_class ≡ false → is_this k ≡ true → IsFound (bindings_among (sites_of v)) w c k n below
+  this_found w c Kind.ThisExpression n below outside e = outside
+  this_found w c k n below outside e = absurd (true≢false (sym e))
+
+  found : (w : Surroundings) (cs : ℕ → Context) (at next : ℕ) (k : Kind) (n : Note) (below rest : Forest) → AllOf (references_among (sites_of v)) (sites cs at next (node k n below rest)) → is_known bound w k n below ≡ true
+      → IsFound (bindings_among (sites_of v)) w (cs at) k n below
+  found w cs at next k n below rest m e = elim (known_by bound w k n below e) [
+    | inl b ↦ name_found w cs at next k n below rest m b.0 b.1
+    | inr b ↦ this_found w (cs at) k n below b.0 b.1
+  ]
+
+  silent_node : (w : Surroundings) (cs : ℕ → Context) (at next : ℕ) (k : Kind) (n : Note) (below rest : Forest) (parts : Type 0) → AllOf (references_among (sites_of v)) (sites cs at next (node k n below rest)) → (may_have_effects bound w below ≡ false → parts)
+      → IsIdle (is_value k) (is_known bound w k n below) (runs_its_parts k below) (may_have_effects bound w below) → IsSilentNode (bindings_among (sites_of v)) w (cs at) k n below parts
   silent_node w cs at next k n below rest parts m then_ (inl e) = inl e
-  silent_node w cs at next k n below rest parts m then_ (inr (inl e)) = inr (inl (e.0, found cs at next k n below rest m e.1))
+  silent_node w cs at next k n below rest parts m then_ (inr (inl e)) = inr (inl (found w cs at next k n below rest m e))
   silent_node w cs at next k n below rest parts m then_ (inr (inr e)) = inr (inr (e.0, then_ e.1))
 
-  pub silent_row : (w : Bool) (cs : ℕ → Context) (at next : ℕ) (f : Forest) → AllOf (references_among (sites_of v)) (sites cs at next f) → may_have_effects bound w f ≡ false → IsSilent (bindings_among (sites_of v)) w cs at next f
+  pub silent_row : (w : Surroundings) (cs : ℕ → Context) (at next : ℕ) (f : Forest) → AllOf (references_among (sites_of v)) (sites cs at next f) → may_have_effects bound w f ≡ false → IsSilent (bindings_among (sites_of v)) w cs at next f
   silent_row w cs at next nothing m e = tt
   silent_row w cs at next (absent rest) m e = silent_row w cs (suc at) next rest m e
   silent_row w cs at next (node k n below rest) m e =
@@ -108,7 +117,7 @@ module _ (bound : List Bool) (v : Forest) (binds : Binds bound v) where
       let effect = has_effect bound w k n below (may_have_effects bound w below) in (
         silent_node w cs at next k n below rest (IsSilent (bindings_among (sites_of v)) w (inside (cs at) next k below) 0 (next + opens_one k below) below) m
             (silent_row w (inside (cs at) next k below) 0 (next + opens_one k below) below (of_right all own inner (of_left all (own ++ inner) outer m)))
-            (idle (is_value k) w (is_known bound k n below) (runs_its_parts k below) (may_have_effects bound w below) (first_of_neither effect (may_have_effects bound w rest) e)),
+            (by_sort (is_value k) (is_known bound w k n below) (runs_its_parts k below) (may_have_effects bound w below) (first_of_neither effect (may_have_effects bound w rest) e)),
         silent_row w cs (suc at) (next + scope_count (node k n below nothing)) rest (of_right all (own ++ inner) outer m) (second_of_neither effect (may_have_effects bound w rest) e),
       )
 

@@ -22,13 +22,13 @@ use Rattle.steps.specs.Allowed.UnusedDeclarator.{a_declarator}
 use Rattle.steps.specs.Allowed.UnusedDeclaration.{a_declaration}
 use Rattle.steps.proofs.Allowed.Composing.{tree_edits_compose}
 use Rattle.js_syntax.proofs.Truth.{not_true, not_false, first_of_neither, second_of_neither}
-use Rattle.rules.specs.DeadCode.Rules.{Facts, has_with, where_of, scope_of, function_is_unused, variable_is_unused, is_quiet, declarator_goes, one_goes, one_stays, declarators_left, declaration_goes, item_goes, declaration_left, item_left, trimmed}
+use Rattle.rules.specs.DeadCode.Rules.{Facts, surroundings_below, where_of, scope_of, function_is_unused, variable_is_unused, is_quiet, declarator_goes, one_goes, one_stays, declarators_left, declaration_goes, item_goes, declaration_left, item_left, trimmed}
 use Rattle.rules.specs.DeadCode.Knows.{Knows}
 use Rattle.rules.proofs.DeadCode.Keeping.{Known, still_known}
 use Rattle.rules.proofs.DeadCode.LaidOut.{has_list, is_laid_at, laid_here}
 use Rattle.rules.proofs.DeadCode.Places.{to, join, plug_join, is_row, has_before, row_join, before_join}
 use Rattle.rules.proofs.DeadCode.Leaving.{empty_leaves, block_leaves, statement_empties, function_leaves, Quiet, declarator_leaves, declaration_leaves}
-use Rattle.rules.proofs.DeadCode.Items.{IsItems, first_items, next_items, absent_items, item_there, item_with, leaves_there, becomes_there, knows_there, known_laid, item_scope, item_declares, declaration, in_declaration, declarator_plugged, declarator_edit, declarator_there, declarator_with, declarator_other, declarator_other_behind, declarator_declares}
+use Rattle.rules.proofs.DeadCode.Items.{IsItems, first_items, next_items, absent_items, item_there, item_surroundings, leaves_there, becomes_there, knows_there, known_laid, item_scope, item_declares, declaration, in_declaration, declarator_plugged, declarator_edit, declarator_there, declarator_surroundings, declarator_other, declarator_other_behind, declarator_declares}
 
 wrong : {P : Type 0} → false ≡ true → P
 wrong e = absurd (true≢false (sym e))
@@ -59,24 +59,24 @@ module _ (f : Facts) (p : Place) where
   block_goes_there : (a : counts.Around) (x : Tree) (rest : Forest) → IsItems p a → holds_nothing x.kind x.below ≡ true → Edit (plug a (node x.kind x.note x.below rest)) (plug a rest)
   block_goes_there a x rest items held = leaves_there a (Some x) rest (block_leaves (to a (first rest)) x (empty_block_leaves (item_there p a rest items) held))
 
-  statement_goes_there : (a : counts.Around) (n l : Note) (k : Kind) (inner rest : Forest) → IsItems p a → may_have_effects f.bound (has_with p.ancestors) (alone k l inner) ≡ false → Now (plug a (node expression_statement n (alone k l inner) rest))
+  statement_goes_there : (a : counts.Around) (n l : Note) (k : Kind) (inner rest : Forest) → IsItems p a → may_have_effects f.bound (surroundings_below p.ancestors) (alone k l inner) ≡ false → Now (plug a (node expression_statement n (alone k l inner) rest))
       → TreeEdits (plug a (node expression_statement n (alone k l inner) rest)) (plug a rest)
   statement_goes_there a n l k inner rest items e h =
       let y = a_statement n l k inner in
       one_tree_edit (plug a (node expression_statement n (alone k l inner) rest)) (plug a (node empty_statement n nothing rest)) (plug a rest)
       (becomes_there a y (a_node empty_statement n nothing) rest
-      (statement_empties f h.marked (to a (first rest)) n n l k inner (knows_there f h.marked a (first rest) y h.knows) (subst (λ b. may_have_effects f.bound b (alone k l inner) ≡ false) (sym (item_with p a rest items)) e)))
+      (statement_empties f h.marked (to a (first rest)) n n l k inner (knows_there f h.marked a (first rest) y h.knows) (subst (λ b. may_have_effects f.bound b (alone k l inner) ≡ false) (sym (item_surroundings p a rest items)) e)))
       (once (plug a (node empty_statement n nothing rest)) (plug a rest) (empty_goes_there a n rest items))
 
   -- ---- declarators
 
   pub data Goes (how : VariableKind) : Kind → Forest → Type 0 where
-    a_name : (x : List ℕ) (j : Note) (value : Forest) → variable_is_unused f (scope_of (where_of p) how) j.id ≡ true → Quiet f (has_with p.ancestors) value → Goes how variable_declarator (node (binding_name x) j nothing value)
+    a_name : (x : List ℕ) (j : Note) (value : Forest) → variable_is_unused f (scope_of (where_of p) how) j.id ≡ true → Quiet f (surroundings_below p.ancestors) value → Goes how variable_declarator (node (binding_name x) j nothing value)
 
   pub goes_view : (how : VariableKind) (k : Kind) (below : Forest) → is_declarator k below ≡ true → declarator_goes f (where_of p) how k below ≡ true → Goes how k below
   goes_view how variable_declarator (node (binding_name x) j nothing value) a g =
       let h = and_parts (variable_is_unused f (scope_of (where_of p) how) j.id) (is_quiet f (where_of p) value) g in
-      a_name x j value h.0 (not_true (may_have_effects f.bound (has_with p.ancestors) value || has_with p.ancestors && is_given value) h.1)
+      a_name x j value h.0 (not_true (may_have_effects f.bound (surroundings_below p.ancestors) value || (surroundings_below p.ancestors).in_with && is_given value) h.1)
   goes_view how variable_declarator (node (binding_name x) j (node k n b r) value) a g = wrong a
   goes_view how variable_declarator (node (binding_name x) j (absent r) value) a g = wrong a
   goes_view how variable_declarator (node k j inner value) a g = wrong g
@@ -96,7 +96,7 @@ module _ (f : Facts) (p : Place) where
         | inr o ↦ declarator_other_behind a d how n m more rest row o
       ])
       (declarator_declares a d how n m more rest f p (record { kind = variable_declarator; note = l; below = node (binding_name x) j nothing value }) items row h) e
-      (subst (λ c. Quiet f c value) (sym (declarator_with a d how n m more rest p items row)) quiet))
+      (subst (λ c. Quiet f c value) (sym (declarator_surroundings a d how n m more rest p items row)) quiet))
 
   only_goes_there : (a : counts.Around) (how : VariableKind) (n m : Note) (k : Kind) (l : Note) (below rest : Forest) → IsItems p a → Goes how k below → Now (plug a (declaration how n m (node k l below nothing) rest))
       → Edit (plug a (declaration how n m (node k l below nothing) rest)) (plug a rest)
@@ -105,7 +105,7 @@ module _ (f : Facts) (p : Place) where
       let tree : Tree = record { kind = variable_declaration how; note = n; below = node declarators m (node variable_declarator l (node (binding_name x) j nothing value) nothing) nothing } in
       leaves_there a y rest
       (declaration_leaves f h.marked (scope_of (where_of p) how) (to a (first rest)) how n m l j x value (knows_there f h.marked a (first rest) y h.knows) (item_there p a rest items) (item_declares f p a tree rest items h how) e
-      (subst (λ c. Quiet f c value) (sym (item_with p a rest items)) quiet))
+      (subst (λ c. Quiet f c value) (sym (item_surroundings p a rest items)) quiet))
 
   -- all of them, one after the other
   declaration_goes_there : (a : counts.Around) (how : VariableKind) (n m : Note) (k : Kind) (l : Note) (below more rest : Forest) → IsItems p a → is_declarator k below && are_declarators more ≡ true
@@ -192,7 +192,7 @@ module _ (f : Facts) (p : Place) where
       once (plug a (node block_statement n below rest)) (plug a rest) (block_goes_there a (record { kind = block_statement; note = n; below = below }) rest items g)
   item_leaves a (labeled_statement label) n below rest items l g h =
       once (plug a (node (labeled_statement label) n below rest)) (plug a rest) (block_goes_there a (record { kind = labeled_statement label; note = n; below = below }) rest items g)
-  item_leaves a expression_statement n (node k m inner nothing) rest items l g h = statement_goes_there a n m k inner rest items (not_true (may_have_effects f.bound (has_with p.ancestors) (alone k m inner)) g) h
+  item_leaves a expression_statement n (node k m inner nothing) rest items l g h = statement_goes_there a n m k inner rest items (not_true (may_have_effects f.bound (surroundings_below p.ancestors) (alone k m inner)) g) h
   item_leaves a expression_statement n below rest items l g h = wrong l
   item_leaves a (function function_kind.Declaration pure) n (node (binding_name x) m nothing r) rest items l g h =
       once (plug a (node (function function_kind.Declaration pure) n (node (binding_name x) m nothing r) rest)) (plug a rest) (function_goes_there a pure n m x r rest items g h)

@@ -20,7 +20,7 @@ use Rattle.steps.proofs.Fit.Enclosing.{fits_enclosed}
 use Rattle.steps.specs.KeepForm.Part.{is_asked_for}
 use Rattle.steps.proofs.Fit.Modules.{fits_program}
 use Rattle.steps.specs.Allowed.Silent.{HoldsThere}
-use Rattle.steps.specs.Allowed.Places.{a_node, At}
+use Rattle.steps.specs.Allowed.Places.{a_node, in_class_at, At}
 use Rattle.steps.specs.Allowed.Free.{Free, FreeDeclarator}
 use Rattle.steps.specs.Allowed.EmptyStatement.{empty_statement_leaves}
 use Rattle.steps.specs.Allowed.EmptyBlock.{holds_nothing, empty_block_leaves}
@@ -174,9 +174,9 @@ module _ (e : BindingSite) (top : e.layer.scope ≡ 0) where
       let y = a_node k n below in
       let t = plug a y in
       let closed = enclosed_rest (kind.BindingName x) m nothing value (enclosed_there a k n below (fits_enclosed t fits)).1 in
-      settled a (record { kind = k; note = n; below = below }) None (λ w c next. SilentDeclarator t below w c next × FreeDeclarator t x w c next) fits (λ rest. refl) l
-      (both_at y (SilentDeclarator t below) (FreeDeclarator t x) false (λ at. outermost) 0 0 a silent free)
-      (λ w c next some holds. gone_stays e k n below None c next (declarator_gone t e h top w x m value closed c next some n holds.0 holds.1)) h
+      settled a (record { kind = k; note = n; below = below }) None (λ w c next. SilentDeclarator t below (in_class_at a) w c next × FreeDeclarator t x w c next) fits (λ rest. refl) l
+      (both_at y (SilentDeclarator t below (in_class_at a)) (FreeDeclarator t x) false (λ at. outermost) 0 0 a silent free)
+      (λ w c next some holds. gone_stays e k n below None c next (declarator_gone t e h top (in_class_at a) w x m value closed c next some n holds.0 holds.1)) h
   left a _ (unused_declaration (unused_declaration_leaves how n m l j x value item own silent free)) lists fits h =
       let k = kind.VariableDeclaration how in
       let inner = node (kind.BindingName x) j nothing value in
@@ -187,9 +187,9 @@ module _ (e : BindingSite) (top : e.layer.scope ≡ 0) where
       let closed =
       enclosed_rest (kind.BindingName x) j nothing value
       (enclosed_below kind.VariableDeclarator l inner nothing (enclosed_below kind.Declarators m ds nothing (enclosed_there a k n below (fits_enclosed t fits)).1)) in
-      settled a (record { kind = k; note = n; below = below }) None (λ w c next. SilentDeclaration t how m l inner w c next × Free t how x w c next) fits (λ rest. refl) lists
-      (both_at y (SilentDeclaration t how m l inner) (Free t how x) false (λ at. outermost) 0 0 a silent free)
-      (λ w c next some holds. gone_stays e k n below None c next (declaration_gone t e h top w x j value closed c next some how n m l holds.0 holds.1)) h
+      settled a (record { kind = k; note = n; below = below }) None (λ w c next. SilentDeclaration t how m l inner (in_class_at a) w c next × Free t how x w c next) fits (λ rest. refl) lists
+      (both_at y (SilentDeclaration t how m l inner (in_class_at a)) (Free t how x) false (λ at. outermost) 0 0 a silent free)
+      (λ w c next some holds. gone_stays e k n below None c next (declaration_gone t e h top (in_class_at a) w x j value closed c next some how n m l holds.0 holds.1)) h
   left a _ (unused_import (unused_import_leaves k n m x binds imported own free)) l fits h =
       let below = node (kind.BindingName x) m nothing nothing in
       let t = plug a (a_node k n below) in
@@ -210,8 +210,8 @@ module _ (e : BindingSite) (top : e.layer.scope ≡ 0) where
       let t = plug a z in
       let closed = (enclosed_there a kind.ExpressionStatement n below (fits_enclosed t fits)).1 in
       subst ExportedBy (made_plug a y)
-      (settled a x (Some y) (SilentStatement t below) fits (λ rest. refl) (λ f. absurd (true≢false f)) silent
-      (λ w c next some holds. gone_stays e kind.ExpressionStatement n below (Some y) c next (statement_gone t e h top c next some w n below closed holds)) h)
+      (settled a x (Some y) (SilentStatement t below (in_class_at a)) fits (λ rest. refl) (λ f. absurd (true≢false f)) silent
+      (λ w c next some holds. gone_stays e kind.ExpressionStatement n below (Some y) c next (statement_gone t e h top c next some (in_class_at a) w n below closed holds)) h)
   changed a x y (known_conditional c) fits h = part_settled a x y (known_conditional_owes a x y c) fits h
   changed a x y (known_side c) fits h = part_settled a x y (known_side_owes a x y c) fits h
   changed a x y (known_if c) fits h = part_settled a x y (known_if_owes a x y c) fits h

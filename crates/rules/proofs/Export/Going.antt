@@ -15,6 +15,7 @@ use Rattle.steps.specs.Naming.Standing.{exported_declarations}
 use Rattle.steps.proofs.Naming.Sites.{InThree, in_first, in_second, in_third, binding_in}
 use Rattle.steps.specs.Steps.{binds_import}
 use Rattle.steps.specs.Allowed.Free.{IsFree, Free, FreeDeclarator}
+use Rattle.steps.specs.Allowed.Silent.{inside_of}
 use Rattle.steps.specs.Allowed.SilentStatement.{SilentStatement}
 use Rattle.steps.specs.Allowed.UnusedDeclarator.{SilentDeclarator}
 use Rattle.steps.specs.Allowed.UnusedDeclaration.{SilentDeclaration, one_declarator}
@@ -47,13 +48,13 @@ module _ (v : Forest) (e : BindingSite) (stands : Among e (exported_declarations
     pub import_gone : (w : Bool) (k : Kind) (n m : Note) (x : List ℕ) → binds_import k ≡ true → FreeDeclarator v x w c next → Gone e k n (node (binding_name x) m nothing nothing) c next
     import_gone w k n m x binds free h = let d = declares_name x m k n binds (λ at. c) 0 next e h in no_free x c.declaring.layer free d.0 d.1
 
-    pub statement_gone : (w : Bool) (n : Note) (below : Forest) → is_enclosed below ≡ true → SilentStatement v below w c next → Gone e expression_statement n below c next
-    statement_gone w n below closed silent h = by (binding_in e (own_sites c n expression_statement below) (sites (inside c next expression_statement below) 0 (next + 0) below) [] h)
+    pub statement_gone : (class w : Bool) (n : Note) (below : Forest) → is_enclosed below ≡ true → SilentStatement v below class w c next → Gone e expression_statement n below c next
+    statement_gone class w n below closed silent h = by (binding_in e (own_sites c n expression_statement below) (sites (inside c next expression_statement below) 0 (next + 0) below) [] h)
       where
         by : InThree e (bindings_among (own_sites c n expression_statement below)) (bindings_among (sites (inside c next expression_statement below) 0 (next + 0) below)) (bindings_among []) → ⊥
         by (in_first g) = g
         by (in_second g) =
-            not_further (next + 0) (next + 0 + scope_count below) (Prim.omega (arith, some)) (silent_inside (bindings_among (sites_of v)) w (inside c next expression_statement below) 0 (next + 0) below closed silent e g)
+            not_further (next + 0) (next + 0 + scope_count below) (Prim.omega (arith, some)) (silent_inside (bindings_among (sites_of v)) (inside_of class w) (inside c next expression_statement below) 0 (next + 0) below closed silent e g)
         by (in_third g) = g
 
     pub function_gone : (w pure : Bool) (n m : Note) (x : List ℕ) (rest : Forest) → is_enclosed_at (function function_kind.Declaration pure) (node (binding_name x) m nothing rest) ≡ true → Free v variable.Let x w c next
@@ -77,12 +78,12 @@ module _ (v : Forest) (e : BindingSite) (stands : Among e (exported_declarations
         of_three (in_second f) = of_part (binding_in e (own_sites (fs 0) m (binding_name x) nothing) [] (sites fs 1 (next + 1 + scope_count (node (binding_name x) m nothing nothing)) rest) f)
         of_three (in_third f) = f
 
-  module _ (w : Bool) (x : List ℕ) (m : Note) (value : Forest) (closed : is_enclosed value ≡ true) where
+  module _ (class w : Bool) (x : List ℕ) (m : Note) (value : Forest) (closed : is_enclosed value ≡ true) where
     abbrev named_value : Forest
     named_value = node (binding_name x) m nothing value
 
     -- a declarator in a row
-    declarator_in_row : (cs : ℕ → Context) (place next : ℕ) → 0 < next → (l : Note) → SilentDeclarator v named_value w (cs place) next → IsFree v (named_in x (cs place).declaring.layer)
+    declarator_in_row : (cs : ℕ → Context) (place next : ℕ) → 0 < next → (l : Note) → SilentDeclarator v named_value class w (cs place) next → IsFree v (named_in x (cs place).declaring.layer)
         → Among e (bindings_among (sites cs place next (node variable_declarator l named_value nothing))) → ⊥
     declarator_in_row cs place next some l silent free h = of_three (binding_in e (own_sites (cs place) l variable_declarator named_value) (sites fs 0 (next + 0) named_value) [] h)
       where
@@ -96,7 +97,7 @@ module _ (v : Forest) (e : BindingSite) (stands : Among e (exported_declarations
         of_part (in_first (inl q)) = no_free x (cs place).declaring.layer free (ap (λ (s : BindingSite). s.name) (sym q)) (ap (λ (s : BindingSite). s.layer) (sym q))
         of_part (in_first (inr q)) = q
         of_part (in_second q) = q
-        of_part (in_third q) = not_further from (from + scope_count value) (Prim.omega (arith, some)) (silent_inside (bindings_among (sites_of v)) w fs 1 from value closed silent.1 e q)
+        of_part (in_third q) = not_further from (from + scope_count value) (Prim.omega (arith, some)) (silent_inside (bindings_among (sites_of v)) (inside_of class w) fs 1 from value closed silent.1 e q)
 
         of_three : InThree e (bindings_among (own_sites (cs place) l variable_declarator named_value)) (bindings_among (sites fs 0 (next + 0) named_value)) (bindings_among []) → ⊥
         of_three (in_first f) = f
@@ -104,10 +105,10 @@ module _ (v : Forest) (e : BindingSite) (stands : Among e (exported_declarations
         of_three (in_third f) = f
 
     module _ (c : Context) (next : ℕ) (some : 0 < next) where
-      pub declarator_gone : (n : Note) → SilentDeclarator v named_value w c next → FreeDeclarator v x w c next → Gone e variable_declarator n named_value c next
+      pub declarator_gone : (n : Note) → SilentDeclarator v named_value class w c next → FreeDeclarator v x w c next → Gone e variable_declarator n named_value c next
       declarator_gone n silent free h = declarator_in_row (λ at. c) 0 next some n silent free h
 
-      pub declaration_gone : (how : VariableKind) (n j l : Note) → SilentDeclaration v how j l named_value w c next → Free v how x w c next → Gone e (variable_declaration how) n (one_declarator j l named_value) c next
+      pub declaration_gone : (how : VariableKind) (n j l : Note) → SilentDeclaration v how j l named_value class w c next → Free v how x w c next → Gone e (variable_declaration how) n (one_declarator j l named_value) c next
       declaration_gone how n j l silent free h = of_outer (binding_in e (own_sites c n (variable_declaration how) whole) (sites outer 0 (next + 0) whole) [] h)
         where
           ds : Forest

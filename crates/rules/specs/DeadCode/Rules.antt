@@ -6,6 +6,7 @@ use Rattle.js_syntax.specs.declared.kind.FunctionKind.TheVariants as function_ki
 use Rattle.js_syntax.specs.declared.kind.VariableKind.{VariableKind}
 use Rattle.js_syntax.specs.declared.kind.VariableKind.TheVariants as variable
 use Rattle.js_syntax.specs.Node.{Forest, Tree, Note, nothing, node, absent}
+use Rattle.js_effects.specs.declared.surroundings.Surroundings.{Surroundings}
 use Rattle.js_effects.specs.Silence.{is_marked, may_have_effects}
 use Rattle.min_context.specs.Ancestry.{nearest}
 use Rattle.min_context.specs.Place.{Place}
@@ -20,6 +21,7 @@ use Rattle.scope_table.specs.Reading.{symbol_at}
 use Rattle.steps.specs.Allowed.Branches.{declares_no_name}
 use Rattle.steps.specs.Allowed.EmptyBlock.{idles}
 use Rattle.steps.specs.Allowed.IdleBody.{is_idle_statement}
+use Rattle.steps.specs.Allowed.Silent.{inside_of}
 use Rattle.steps.specs.Allowed.ValueStays.{may_be_stated}
 use Rattle.steps.specs.Marked.Flags.{scope_has, is_sloppy_block}
 
@@ -34,11 +36,13 @@ pub record Facts : Type 0 where
   pub keeps_unused : Bool
   pub keeps_imports : Bool
 
--- and of a place: the numbers of the innermost scope and of that in which `var` declares, and whether a `with` statement is around
+-- and of a place: the numbers of the innermost scope and of that in which `var` declares, and whether a `with` statement and a class are
+-- around
 pub record Where : Type 0 where
   pub scope : ℕ
   pub hoist_scope : ℕ
   pub in_with : Bool
+  pub in_class : Bool
 
 abbrev pub is_field_of_with : Ancestor → Bool
 is_field_of_with (field parent.WithStatement at) = true
@@ -48,8 +52,23 @@ abbrev pub has_with : List Ancestor → Bool
 has_with [] = false
 has_with (a ∷ above) = is_field_of_with a || has_with above
 
+abbrev pub is_field_of_class : Ancestor → Bool
+is_field_of_class (field (parent.Class previous) at) = true
+is_field_of_class a = false
+
+abbrev pub has_class : List Ancestor → Bool
+has_class [] = false
+has_class (a ∷ above) = is_field_of_class a || has_class above
+
 abbrev pub where_of : Place → Where
-where_of p = record { scope = p.scope; hoist_scope = p.hoist_scope; in_with = has_with p.ancestors }
+where_of p = record { scope = p.scope; hoist_scope = p.hoist_scope; in_with = has_with p.ancestors; in_class = has_class p.ancestors }
+
+abbrev pub surroundings_of : Where → Surroundings
+surroundings_of w = inside_of w.in_class w.in_with
+
+-- what these ancestors tell
+abbrev pub surroundings_below : List Ancestor → Surroundings
+surroundings_below above = inside_of (has_class above) (has_with above)
 
 -- ---- names
 
@@ -81,7 +100,7 @@ scope_of w how = w.scope
 
 -- To initialise it does nothing. Inside of a `with` statement an initialiser may set a property of its object (14.3.2).
 abbrev pub is_quiet : Facts → Where → (value : Forest) → Bool
-is_quiet f w value = not (may_have_effects f.bound w.in_with value || w.in_with && is_given value)
+is_quiet f w value = not (may_have_effects f.bound (surroundings_of w) value || w.in_with && is_given value)
 
 abbrev pub declarator_goes : Facts → Where → VariableKind → Kind → (below : Forest) → Bool
 declarator_goes f w how variable_declarator (node (binding_name x) n inner value) = variable_is_unused f (scope_of w how) n.id && is_quiet f w value
@@ -109,7 +128,7 @@ declaration_goes f w how (node declarators n ds rest) = one_goes f w how ds && n
 declaration_goes f w how below = false
 
 abbrev pub is_silent_statement : Facts → Where → Kind → (below : Forest) → Bool
-is_silent_statement f w expression_statement below = not (may_have_effects f.bound w.in_with below)
+is_silent_statement f w expression_statement below = not (may_have_effects f.bound (surroundings_of w) below)
 is_silent_statement f w k below = false
 
 abbrev pub function_goes : Facts → Where → (below : Forest) → Bool

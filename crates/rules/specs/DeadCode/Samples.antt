@@ -32,14 +32,14 @@ items_of (node k n (node l m items r) rest) = items
 items_of t = nothing
 
 abbrev pub at_top : Where
-at_top = record { scope = 0; hoist_scope = 0; in_with = false }
+at_top = record { scope = 0; hoist_scope = 0; in_with = false; in_class = false }
 
 -- in the first block of a program
 abbrev pub in_block : Where
-in_block = record { scope = 1; hoist_scope = 0; in_with = false }
+in_block = record { scope = 1; hoist_scope = 0; in_with = false; in_class = false }
 
 abbrev pub in_with : Where
-in_with = record { scope = 0; hoist_scope = 0; in_with = true }
+in_with = record { scope = 0; hoist_scope = 0; in_with = true; in_class = false }
 
 -- what is left of a program's items, and of those of a block which is its first item
 abbrev pub left_at : Where → (exported : List Bool) → Forest → Forest

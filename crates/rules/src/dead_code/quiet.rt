@@ -10,7 +10,7 @@ ghost use Rattle.steps.specs.Allowed.EmptyBlock.{EmptyBlock};
 ghost use Rattle.steps.specs.Allowed.IdleBody.{IdleBody};
 ghost use Rattle.steps.specs.Allowed.Exposure.{IsOwnFunction, IsOwnDeclarator};
 ghost use Rattle.steps.specs.Allowed.Free.{Free, FreeDeclarator};
-ghost use Rattle.steps.specs.Allowed.Places.{a_node, IsItem, IsDeclarator, At};
+ghost use Rattle.steps.specs.Allowed.Places.{a_node, in_class_at, IsItem, IsDeclarator, At};
 ghost use Rattle.steps.specs.Allowed.SilentStatement.{SilentStatement};
 ghost use Rattle.steps.specs.Allowed.UnusedFunction.{a_function};
 ghost use Rattle.steps.specs.Allowed.UnusedDeclarator.{a_declarator, SilentDeclarator};
@@ -31,11 +31,11 @@ pub fn what_is_quiet_has_no_dead_code()
     ensures empty_statements { (f : Facts) (t : Forest) → Knows f unmarked t → Exactly f t → IsQuiet f t → (a : Around) → (n : Note) → t ≡ plug a (a_node empty_statement n nothing) → IsItem a → ⊥ }
     ensures empty_blocks { (f : Facts) (t : Forest) → Knows f unmarked t → Exactly f t → IsQuiet f t → (a : Around) → (x : Tree) → t ≡ plug a (Some x) → EmptyBlock a x → ⊥ }
     ensures silent_statements { (f : Facts) (t : Forest) → Knows f unmarked t → Exactly f t → IsQuiet f t → (a : Around) → (n : Note) (below : Forest) → t ≡ plug a (a_node expression_statement n below)
-        → At a (a_node expression_statement n below) (SilentStatement t below) → ⊥ }
+        → At a (a_node expression_statement n below) (SilentStatement t below (in_class_at a)) → ⊥ }
     ensures idle_bodies { (f : Facts) (t : Forest) → Knows f unmarked t → Exactly f t → IsQuiet f t → (a : Around) → (x y : Tree) → t ≡ plug a (Some x) → IdleBody a x y → ⊥ }
     ensures functions { (f : Facts) (t : Forest) → Knows f unmarked t → Exactly f t → IsQuiet f t → (a : Around) → (pure : Bool) (n m : Note) (x : List ℕ) (rest : Forest) → t ≡ plug a (a_function pure n m x rest) → f.keeps_unused ≡ false → IsItem a
         → IsOwnFunction a (a_function pure n m x rest) → At a (a_function pure n m x rest) (Free t variable.Let x) → ⊥ }
     ensures declarators { (f : Facts) (t : Forest) → Knows f unmarked t → Exactly f t → IsQuiet f t → (a : Around) → (n m : Note) (x : List ℕ) (value : Forest) → t ≡ plug a (a_declarator n m x value) → f.keeps_unused ≡ false → IsDeclarator a
-        → IsOwnDeclarator a (a_declarator n m x value) → At a (a_declarator n m x value) (SilentDeclarator t (node (binding_name x) m nothing value)) → At a (a_declarator n m x value) (FreeDeclarator t x) → ⊥ }
+        → IsOwnDeclarator a (a_declarator n m x value) → At a (a_declarator n m x value) (SilentDeclarator t (node (binding_name x) m nothing value) (in_class_at a)) → At a (a_declarator n m x value) (FreeDeclarator t x) → ⊥ }
     ensures values { (f : Facts) (t : Forest) → Knows f unmarked t → Exactly f t → IsQuiet f t → (a : Around) → (x y : Tree) → t ≡ plug a (Some x) → f.keeps_unused ≡ false → ValueStays a x y → ⊥ }
 {}
