@@ -2,11 +2,12 @@
 use Rattle.std.proofs.Common.{◌≡◌, ◌∙◌, ◌+◌, ℕ, suc, List, Bool, true, false, not, ◌&&◌, ◌||◌, Option, Some, None, is_some, if◌then◌else◌, refl, sym, ap, ap₂, subst, inl, inr}
 use mathlib.Core.Path.{fun_ext}
 use Rattle.js_syntax.specs.declared.node_kind.NodeKind.{NodeKind as Kind}
-use Rattle.js_syntax.specs.declared.node_kind.NodeKind.TheVariants.{Function as function, UnaryExpression as unary_expression, BindingName as binding_name, ReferenceName as reference_name, Specifiers as specifiers, EmptyStatement as empty_statement, ExpressionStatement as expression_statement, VariableDeclaration as variable_declaration, VariableDeclarator as variable_declarator, ConditionalExpression as conditional_expression, LogicalExpression as logical_expression}
+use Rattle.js_syntax.specs.declared.node_kind.NodeKind.TheVariants.{Function as function, UnaryExpression as unary_expression, BindingName as binding_name, ReferenceName as reference_name, ThisExpression as this_expression, Specifiers as specifiers, EmptyStatement as empty_statement, ExpressionStatement as expression_statement, VariableDeclaration as variable_declaration, VariableDeclarator as variable_declarator, ConditionalExpression as conditional_expression, LogicalExpression as logical_expression}
 use Rattle.js_syntax.specs.declared.kind.FunctionKind.TheVariants as function_kind
 use Rattle.js_syntax.specs.declared.kind.VariableKind.TheVariants as variable
 use Rattle.js_syntax.specs.declared.operator.UnaryOperator.TheVariants as unary
 use Rattle.js_syntax.specs.Node.{Forest, Tree, Note, nothing, node, absent, alone, nowhere, bare, forest_of}
+use Rattle.js_effects.specs.declared.surroundings.Surroundings.{Surroundings}
 use Rattle.js_effects.specs.Silence.{is_nothing, is_one_name, runs_its_parts}
 use Rattle.js_effects.proofs.Bare.{runs_bare, one_name_bare}
 use Rattle.js_meaning_near.specs.Near.{cuts_off}
@@ -18,13 +19,13 @@ use Rattle.scope_rules.specs.Site.{BindingSite, ReferenceSite, opens_one, scope_
 use Rattle.scope_rules.specs.Binding.{named_in, binding_of}
 use Rattle.scope_laws.specs.Place.{Around, first, behind, behind_none, under, plug}
 use Rattle.scope_laws.proofs.Notes.{unseen, scope_count_bare}
-use Rattle.steps.specs.Allowed.Silent.{read_in, IsFound, IsSilentNode, IsSilent, HoldsThere}
+use Rattle.steps.specs.Allowed.Silent.{read_in, inside_of, IsFound, IsSilentNode, IsSilent, HoldsThere}
 use Rattle.steps.specs.Allowed.Exposure.{Exposure, exposed_inside, exposed_of, exposed_at, exposure, shares, function_is_exposed, evaluates_somewhere, IsOwnFunction, IsOwnDeclarator}
 use Rattle.steps.specs.Allowed.Uses.{Use, use_below, use_there, use_at, matters, stands_bare}
 use Rattle.steps.specs.Allowed.Unused.{Taker, somebody, is_nobody, taken_below, taken_there}
 use Rattle.steps.specs.Steps.{binds_import}
 use Rattle.steps.specs.Allowed.Imports.{ImportRow, elsewhere, import_row_below, import_row, IsImported}
-use Rattle.steps.specs.Allowed.Places.{a_node, asked_at, IsItem, IsDeclarator, At, MayStandBare}
+use Rattle.steps.specs.Allowed.Places.{a_node, asked_at, in_class_at, IsItem, IsDeclarator, At, MayStandBare}
 use Rattle.steps.specs.Allowed.Free.{Free, FreeDeclarator}
 use Rattle.steps.specs.Allowed.SilentStatement.{SilentStatement}
 use Rattle.steps.specs.Allowed.UnusedFunction.{a_function}
@@ -82,19 +83,20 @@ place_as next k n m f g e = ap (λ (i : ℕ). next + i) (unseen scope_count scop
 
 -- ---- what is silent
 
-found_as : (bs ds : List BindingSite) → ((r : ReferenceSite) → binding_of bs r ≡ binding_of ds r) → (c : Context) (k : Kind) (n m : Note) (f g : Forest) → bare f ≡ bare g → IsFound bs c k n f → IsFound ds c k m g
-found_as bs ds same c (reference_name x) n m f g e (inl h) = inl (ap is_some (sym (same (read_in c m x))) ∙ h)
-found_as bs ds same c (reference_name x) n m f g e (inr h) = inr h
-found_as bs ds same c (unary_expression unary.Typeof) n m f g e h = sym (one_name_bare g) ∙ ap is_one_name (sym e) ∙ one_name_bare f ∙ h
-found_as bs ds same c k n m f g e h = absurd h
+found_as : (bs ds : List BindingSite) → ((r : ReferenceSite) → binding_of bs r ≡ binding_of ds r) → (w : Surroundings) (c : Context) (k : Kind) (n m : Note) (f g : Forest) → bare f ≡ bare g → IsFound bs w c k n f → IsFound ds w c k m g
+found_as bs ds same w c (reference_name x) n m f g e (outside, inl h) = (outside, inl (ap is_some (sym (same (read_in c m x))) ∙ h))
+found_as bs ds same w c (reference_name x) n m f g e (outside, inr h) = (outside, inr h)
+found_as bs ds same w c (unary_expression unary.Typeof) n m f g e h = (h.0, sym (one_name_bare g) ∙ ap is_one_name (sym e) ∙ one_name_bare f ∙ h.1)
+found_as bs ds same w c this_expression n m f g e h = h
+found_as bs ds same w c k n m f g e h = absurd h
 
-silent_node : (bs ds : List BindingSite) → ((r : ReferenceSite) → binding_of bs r ≡ binding_of ds r) → (w : Bool) (c : Context) (k : Kind) (n m : Note) (f g : Forest) → bare f ≡ bare g → (parts now : Type 0) → (parts → now)
+silent_node : (bs ds : List BindingSite) → ((r : ReferenceSite) → binding_of bs r ≡ binding_of ds r) → (w : Surroundings) (c : Context) (k : Kind) (n m : Note) (f g : Forest) → bare f ≡ bare g → (parts now : Type 0) → (parts → now)
     → IsSilentNode bs w c k n f parts → IsSilentNode ds w c k m g now
 silent_node bs ds same w c k n m f g e parts now then_ (inl h) = inl h
-silent_node bs ds same w c k n m f g e parts now then_ (inr (inl h)) = inr (inl (h.0, found_as bs ds same c k n m f g e h.1))
+silent_node bs ds same w c k n m f g e parts now then_ (inr (inl h)) = inr (inl (found_as bs ds same w c k n m f g e h))
 silent_node bs ds same w c k n m f g e parts now then_ (inr (inr h)) = inr (inr (sym (runs_bare k g) ∙ ap (runs_its_parts k) (sym e) ∙ runs_bare k f ∙ h.0, then_ h.1))
 
-silent_as : (bs ds : List BindingSite) → ((r : ReferenceSite) → binding_of bs r ≡ binding_of ds r) → (w : Bool) (cs : ℕ → Context) (at next : ℕ) (f g : Forest) → bare f ≡ bare g
+silent_as : (bs ds : List BindingSite) → ((r : ReferenceSite) → binding_of bs r ≡ binding_of ds r) → (w : Surroundings) (cs : ℕ → Context) (at next : ℕ) (f g : Forest) → bare f ≡ bare g
     → IsSilent bs w cs at next f → IsSilent ds w cs at next g
 silent_as bs ds same w cs at next nothing nothing e h = tt
 silent_as bs ds same w cs at next nothing (absent g) e h = absurd (nothing_absent e)
@@ -340,15 +342,15 @@ module _ (t u : Forest) (e : bare t ≡ bare u) where
   evaluates_same : evaluates_somewhere t ≡ evaluates_somewhere u
   evaluates_same = unseen evaluates_somewhere bare_below t u e
 
-  silent_in : (w : Bool) (cs : ℕ → Context) (at next : ℕ) (f g : Forest) → bare f ≡ bare g → IsSilent (bindings_among (sites_of u)) w cs at next f
+  silent_in : (w : Surroundings) (cs : ℕ → Context) (at next : ℕ) (f g : Forest) → bare f ≡ bare g → IsSilent (bindings_among (sites_of u)) w cs at next f
       → IsSilent (bindings_among (sites_of t)) w cs at next g
   silent_in w cs at next f g h s = silent_as (bindings_among (sites_of u)) (bindings_among (sites_of t)) (λ r. sym (same_binding t u e r)) w cs at next f g h s
 
-  statement_as : (f g : Forest) → bare f ≡ bare g → (w : Bool) (c : Context) (next : ℕ) → SilentStatement u f w c next → SilentStatement t g w c next
-  statement_as f g h w c next s =
-      subst (λ (i : ℕ). IsSilent (bindings_among (sites_of t)) w (inside c next expression_statement g) 0 (next + i) g) (opens_same expression_statement f g h)
-      (subst (λ (ds : ℕ → Context). IsSilent (bindings_among (sites_of t)) w ds 0 (next + opens_one expression_statement f) g) (inside_same c next expression_statement f g h)
-      (silent_in w (inside c next expression_statement f) 0 (next + opens_one expression_statement f) f g h s))
+  statement_as : (f g : Forest) → bare f ≡ bare g → (class w : Bool) (c : Context) (next : ℕ) → SilentStatement u f class w c next → SilentStatement t g class w c next
+  statement_as f g h class w c next s =
+      subst (λ (i : ℕ). IsSilent (bindings_among (sites_of t)) (inside_of class w) (inside c next expression_statement g) 0 (next + i) g) (opens_same expression_statement f g h)
+      (subst (λ (ds : ℕ → Context). IsSilent (bindings_among (sites_of t)) (inside_of class w) ds 0 (next + opens_one expression_statement f) g) (inside_same c next expression_statement f g h)
+      (silent_in (inside_of class w) (inside c next expression_statement f) 0 (next + opens_one expression_statement f) f g h s))
 
   given_same : (f g : Forest) → bare f ≡ bare g → is_given f ≡ is_given g
   given_same f g h = unseen is_given by f g h
@@ -358,9 +360,9 @@ module _ (t u : Forest) (e : bare t ≡ bare u) where
       by (absent r) = refl
       by (node k n b r) = refl
 
-  declarator_as : (x : List ℕ) (m n : Note) (f g : Forest) → bare f ≡ bare g → (w : Bool) (c : Context) (next : ℕ) → SilentDeclarator u (node (binding_name x) m nothing f) w c next
-      → SilentDeclarator t (node (binding_name x) n nothing g) w c next
-  declarator_as x m n f g h w c next s = (ap (λ b. w && b) (sym (given_same f g h)) ∙ s.0, silent_in w (inside c next variable_declarator (node (binding_name x) m nothing f)) 1 (next + 0 + 0) f g h s.1)
+  declarator_as : (x : List ℕ) (m n : Note) (f g : Forest) → bare f ≡ bare g → (class w : Bool) (c : Context) (next : ℕ) → SilentDeclarator u (node (binding_name x) m nothing f) class w c next
+      → SilentDeclarator t (node (binding_name x) n nothing g) class w c next
+  declarator_as x m n f g h class w c next s = (ap (λ b. w && b) (sym (given_same f g h)) ∙ s.0, silent_in (inside_of class w) (inside c next variable_declarator (node (binding_name x) m nothing f)) 1 (next + 0 + 0) f g h s.1)
 
 -- ---- dead code
 
@@ -373,6 +375,9 @@ module _ (unused imports : Bool) (t u : Forest) (e : bare t ≡ bare u) (clean :
 
   declares_as : {k : Kind} {n : Note} {b : Forest} (a : Around) (o : Twin t a k n b) → IsDeclarator a → IsDeclarator o.around
   declares_as a o h = ap (λ (w : Asked). w.row) (o.asked (asked_of_program true)) ∙ h
+
+  class_as : {k : Kind} {n : Note} {b : Forest} (a : Around) (o : Twin t a k n b) → in_class_at o.around ≡ in_class_at a
+  class_as a o = ap (λ (w : Asked). w.in_class) (o.asked (asked_of_program true))
 
   exposure_as : {k : Kind} {n : Note} {b : Forest} (a : Around) (o : Twin t a k n b) → u ≡ plug a (a_node k n b) → exposure o.around (a_node k o.note o.below) ≡ exposure a (a_node k n b)
   exposure_as {k = k} {n = n} {b = b} a o is =
@@ -391,13 +396,14 @@ module _ (unused imports : Bool) (t u : Forest) (e : bare t ≡ bare u) (clean :
       let below = nothing_bare o.below o.same in
       clean.nothing_is_dead o.around (a_node empty_statement o.note nothing) (o.is ∙ ap (λ b. plug o.around (a_node empty_statement o.note b)) below) (an_empty_statement o.around o.note (item_as a o item))
 
-  no_silent : (a : Around) (n : Note) (b : Forest) → u ≡ plug a (a_node expression_statement n b) → At a (a_node expression_statement n b) (SilentStatement u b) → ⊥
+  no_silent : (a : Around) (n : Note) (b : Forest) → u ≡ plug a (a_node expression_statement n b) → At a (a_node expression_statement n b) (SilentStatement u b (in_class_at a)) → ⊥
   no_silent a n b is silent =
       let o = other_place a expression_statement n b is in
       clean.nothing_is_dead o.around (a_node expression_statement o.note o.below) o.is
       (a_silent_statement o.around o.note o.below
-      (follows_there (SilentStatement u b) (SilentStatement t o.below) (statement_as t u e b o.below (sym o.same)) (a_node expression_statement o.note o.below) o.around false (λ at. outermost) 0 0
-      (o.holds (SilentStatement u b) false (λ at. outermost) 0 0 silent)))
+      (subst (λ class. At o.around (a_node expression_statement o.note o.below) (SilentStatement t o.below class)) (sym (class_as a o))
+      (follows_there (SilentStatement u b (in_class_at a)) (SilentStatement t o.below (in_class_at a)) (statement_as t u e b o.below (sym o.same) (in_class_at a)) (a_node expression_statement o.note o.below) o.around false (λ at. outermost) 0 0
+      (o.holds (SilentStatement u b (in_class_at a)) false (λ at. outermost) 0 0 silent))))
 
   no_function : (a : Around) (pure : Bool) (n m : Note) (x : List ℕ) (rest : Forest) → u ≡ plug a (a_function pure n m x rest) → unused ≡ false → IsItem a → IsOwnFunction a (a_function pure n m x rest)
       → At a (a_function pure n m x rest) (Free u variable.Let x) → ⊥
@@ -416,23 +422,25 @@ module _ (unused imports : Bool) (t u : Forest) (e : bare t ≡ bare u) (clean :
       clean.nothing_is_dead o.around (a_function pure o.note f.note x f.rest_now) there.0 (an_unused_function o.around pure o.note f.note x f.rest_now goes (item_as a o item) there.1 there.2)
 
   no_declarator : (a : Around) (n m : Note) (x : List ℕ) (value : Forest) → u ≡ plug a (a_declarator n m x value) → unused ≡ false → IsDeclarator a → IsOwnDeclarator a (a_declarator n m x value)
-      → At a (a_declarator n m x value) (SilentDeclarator u (node (binding_name x) m nothing value)) → At a (a_declarator n m x value) (FreeDeclarator u x) → ⊥
+      → At a (a_declarator n m x value) (SilentDeclarator u (node (binding_name x) m nothing value) (in_class_at a)) → At a (a_declarator n m x value) (FreeDeclarator u x) → ⊥
   no_declarator a n m x value is goes declares own silent free =
       let k = variable_declarator in
       let b = node (binding_name x) m nothing value in
       let o = other_place a k n b is in
       let f = begins o.below x m value o.same in
       let quiet = SilentDeclarator t (node (binding_name x) f.note nothing f.rest_now) in
+      let class = in_class_at a in
       let now : (t ≡ plug o.around (a_node k o.note o.below)) × ((exposure o.around (a_node k o.note o.below)).declared_shared || evaluates_somewhere (plug o.around (a_node k o.note o.below)) ≡ false)
-      × At o.around (a_node k o.note o.below) quiet × At o.around (a_node k o.note o.below) (FreeDeclarator t x) = (
+      × At o.around (a_node k o.note o.below) (quiet (in_class_at o.around)) × At o.around (a_node k o.note o.below) (FreeDeclarator t x) = (
         o.is,
         ap₂ (λ (q : Exposure) v. q.declared_shared || v) (exposure_as a o is) (evaluates_as a o is) ∙ own,
-        follows_there (SilentDeclarator u b) quiet (declarator_as t u e x m f.note value f.rest_now f.same) (a_node k o.note o.below) o.around false (λ at. outermost) 0 0 (o.holds (SilentDeclarator u b) false (λ at. outermost) 0 0 silent),
+        subst (λ v. At o.around (a_node k o.note o.below) (quiet v)) (sym (class_as a o))
+            (follows_there (SilentDeclarator u b class) (quiet class) (declarator_as t u e x m f.note value f.rest_now f.same class) (a_node k o.note o.below) o.around false (λ at. outermost) 0 0 (o.holds (SilentDeclarator u b class) false (λ at. outermost) 0 0 silent)),
         follows_there (FreeDeclarator u x) (FreeDeclarator t x) (λ v c i h. free_as t u e (named_in x c.declaring.layer) h) (a_node k o.note o.below) o.around false (λ at. outermost) 0 0
             (o.holds (FreeDeclarator u x) false (λ at. outermost) 0 0 free),
       ) in
       let there = subst (λ d. (t ≡ plug o.around (a_node k o.note d)) × ((exposure o.around (a_node k o.note d)).declared_shared || evaluates_somewhere (plug o.around (a_node k o.note d)) ≡ false)
-      × At o.around (a_node k o.note d) quiet × At o.around (a_node k o.note d) (FreeDeclarator t x)) f.is now in
+      × At o.around (a_node k o.note d) (quiet (in_class_at o.around)) × At o.around (a_node k o.note d) (FreeDeclarator t x)) f.is now in
       clean.nothing_is_dead o.around (a_declarator o.note f.note x f.rest_now) there.0
       (an_unused_declarator o.around o.note f.note x f.rest_now goes (declares_as a o declares) there.1 there.2 there.3)
 

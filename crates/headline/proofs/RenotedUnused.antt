@@ -4,7 +4,7 @@ use Rattle.js_syntax.specs.declared.node_kind.NodeKind.{NodeKind as Kind}
 use Rattle.js_syntax.specs.declared.node_kind.NodeKind.TheVariants.{Function as function, ReferenceName as reference_name, MemberExpression as member_expression, ChainExpression as chain_expression, ParenthesizedExpression as parenthesized_expression, Class as class, ConditionalExpression as conditional_expression, LogicalExpression as logical_expression, UnaryExpression as unary_expression, BinaryExpression as binary_expression, ArrayExpression as array_expression, Elements as elements, SequenceExpression as sequence_expression, Expressions as expressions, TemplateLiteral as template_literal, Quasis as quasis}
 use Rattle.js_syntax.specs.Node.{Forest, Tree, Note, nothing, node, absent, nowhere, bare}
 use Rattle.js_effects.specs.Still.{is_value}
-use Rattle.js_effects.specs.Silence.{may_have_effects, only_combines}
+use Rattle.js_effects.specs.Silence.{anywhere, may_have_effects, only_combines}
 use Rattle.js_effects.proofs.Bare.{converts_bare, runs_bare}
 use Rattle.scope_laws.specs.Lists.{is_list}
 use Rattle.scope_laws.proofs.Notes.{unseen}
@@ -46,8 +46,8 @@ stands_as u w k f g e = unseen (stands_bare u w k) (stands_bare_bare u w k) f g 
 
 -- ---- the operand that is needed
 
--- no name is known, so no id plays a part
-effects_bare : (t : Forest) → may_have_effects [] true (bare t) ≡ may_have_effects [] true t
+-- nothing is known, so no id plays a part
+effects_bare : (t : Forest) → may_have_effects [] anywhere (bare t) ≡ may_have_effects [] anywhere t
 effects_bare nothing = refl
 effects_bare (absent rest) = effects_bare rest
 effects_bare (node k n below rest) =

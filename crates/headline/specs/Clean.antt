@@ -8,7 +8,7 @@ use Rattle.scope_laws.specs.Place.{Around, plug}
 -- where a node stands; what is silent there; which binding no reference has and no export is of
 use Rattle.steps.specs.Steps.{binds_import}
 use Rattle.steps.specs.Allowed.Imports.{IsImported}
-use Rattle.steps.specs.Allowed.Places.{a_node, IsItem, IsDeclarator, At}
+use Rattle.steps.specs.Allowed.Places.{a_node, in_class_at, IsItem, IsDeclarator, At}
 use Rattle.steps.specs.Allowed.Free.{Free, FreeDeclarator}
 use Rattle.steps.specs.Allowed.SilentStatement.{SilentStatement}
 use Rattle.steps.specs.Allowed.UnusedFunction.{a_function}
@@ -70,14 +70,14 @@ pub data IsDead (unused imports : Bool) (t : Forest) : Around → Option Tree �
   -- a block of nothing in a list of statements, or one behind labels
   an_empty_block : (a : Around) (x : Tree) → EmptyBlock a x → IsDead unused imports t a (Some x)
   -- a statement, wherever it stands, whose expression is silent there
-  a_silent_statement : (a : Around) (n : Note) (below : Forest) → At a (a_node expression_statement n below) (SilentStatement t below) → IsDead unused imports t a (a_node expression_statement n below)
+  a_silent_statement : (a : Around) (n : Note) (below : Forest) → At a (a_node expression_statement n below) (SilentStatement t below (in_class_at a)) → IsDead unused imports t a (a_node expression_statement n below)
   -- a function declaration in a list of statements, whose name nothing refers to, no export is of and no other code may use
   an_unused_function : (a : Around) (pure : Bool) (n m : Note) (x : List ℕ) (rest : Forest) → unused ≡ false → IsItem a → IsOwnFunction a (a_function pure n m x rest) → At a (a_function pure n m x rest) (Free t variable.Let x)
       → IsDead unused imports t a (a_function pure n m x rest)
   -- a declarator of such a name, the only one or one of several of a declaration in a list of statements, with a silent initialiser
   -- or none
   an_unused_declarator : (a : Around) (n m : Note) (x : List ℕ) (value : Forest) → unused ≡ false → IsDeclarator a → IsOwnDeclarator a (a_declarator n m x value)
-      → At a (a_declarator n m x value) (SilentDeclarator t (node (binding_name x) m nothing value)) → At a (a_declarator n m x value) (FreeDeclarator t x) → IsDead unused imports t a (a_declarator n m x value)
+      → At a (a_declarator n m x value) (SilentDeclarator t (node (binding_name x) m nothing value) (in_class_at a)) → At a (a_declarator n m x value) (FreeDeclarator t x) → IsDead unused imports t a (a_declarator n m x value)
   -- a declaration of one such name in a list of statements, and not inside of a `with` statement, whose value is no literal, function or
   -- class: a statement of the value does what anybody sees of it
   a_value_of_an_unused_name : (a : Around) (x y : Tree) → unused ≡ false → ValueStays a x y → IsDead unused imports t a (Some x)

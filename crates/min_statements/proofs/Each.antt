@@ -6,7 +6,7 @@ use Rattle.js_syntax.specs.declared.kind.VariableKind.{VariableKind}
 use Rattle.js_tree.proofs.Search.{AsksEach}
 use Rattle.js_syntax.proofs.Truth.{or_false}
 use Rattle.min_context.specs.declared.ancestor.Ancestor.{Ancestor}
-use Rattle.rules.specs.DeadCode.Rules.{Facts, Where, declarator_goes, one_goes, one_stays, item_has_dead, has_dead, has_with, is_field_of_with}
+use Rattle.rules.specs.DeadCode.Rules.{Facts, Where, declarator_goes, one_goes, one_stays, item_has_dead, has_dead, has_with, is_field_of_with, has_class, is_field_of_class}
 use Rattle.rules.specs.Imports.Rules as imports
 use Rattle.min_statements.specs.Shed.{is_unused_specifier}
 
@@ -39,3 +39,12 @@ with_passed xs i d h e = ap has_with (drop-cons xs i d h) ∙ ap (λ b. b || has
 
 pub with_nowhere : (xs : List Ancestor) (i : ℕ) → length xs ≤ i → has_with (drop i xs) ≡ false
 with_nowhere xs i h = ap has_with (drop_all i xs h)
+
+pub class_found : (xs : List Ancestor) (i : ℕ) (d : Ancestor) → i < length xs → is_field_of_class (slice_index_or xs i d) ≡ true → has_class (drop i xs) ≡ true
+class_found xs i d h e = ap has_class (drop-cons xs i d h) ∙ ap (λ b. b || has_class (drop (suc i) xs)) e
+
+pub class_passed : (xs : List Ancestor) (i : ℕ) (d : Ancestor) → i < length xs → is_field_of_class (slice_index_or xs i d) ≡ false → has_class (drop i xs) ≡ has_class (drop (i + 1) xs)
+class_passed xs i d h e = ap has_class (drop-cons xs i d h) ∙ ap (λ b. b || has_class (drop (suc i) xs)) e ∙ ap (λ k. has_class (drop k xs)) (sym (add-one i))
+
+pub class_nowhere : (xs : List Ancestor) (i : ℕ) → length xs ≤ i → has_class (drop i xs) ≡ false
+class_nowhere xs i h = ap has_class (drop_all i xs h)

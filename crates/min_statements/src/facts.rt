@@ -3,9 +3,10 @@ ghost use Rattle.std.specs.Prelude.{◌≡◌, ◌==◌, length};
 ghost use Rattle.scope_rules.specs.ScopeFlags as scope_flag;
 ghost use Rattle.scope_table.specs.Reading.{scope_at, symbol_at};
 ghost use Rattle.steps.specs.Marked.Flags.{scope_has, is_sloppy_block};
-ghost use Rattle.rules.specs.DeadCode.Rules.{where_of, has_with, is_field_of_with};
+ghost use Rattle.rules.specs.DeadCode.Rules.{where_of, surroundings_of, has_with, is_field_of_with, has_class, is_field_of_class};
 
 use bitflags::Flags;
+use js_effects::Surroundings;
 use js_syntax::{ScopeId, SymbolId};
 use min_context::{Ancestor, MinifierTraverseCtx, Parent};
 use scope_table::{ScopeFlags, Scoping};
@@ -36,6 +37,7 @@ pub(crate) struct Where {
     pub(crate) scope: u32,
     pub(crate) hoist_scope: u32,
     pub(crate) in_with: bool,
+    pub(crate) in_class: bool,
 }
 
 impl Model for Where {
@@ -43,9 +45,9 @@ impl Model for Where {
 
     ghost Value = { Where };
 
-    ghost view = { λ w. record { scope = w.scope; hoist_scope = w.hoist_scope; in_with = w.in_with } };
+    ghost view = { λ w. record { scope = w.scope; hoist_scope = w.hoist_scope; in_with = w.in_with; in_class = w.in_class } };
 
-    ghost inverse = { λ w. record { scope = w.scope; hoist_scope = w.hoist_scope; in_with = w.in_with } };
+    ghost inverse = { λ w. record { scope = w.scope; hoist_scope = w.hoist_scope; in_with = w.in_with; in_class = w.in_class } };
 }
 
 fn is_field_of_with(ancestor: Ancestor) -> bool
@@ -68,6 +70,26 @@ fn has_with(above: &[Ancestor]) -> bool
     false
 }
 
+fn is_field_of_class(ancestor: Ancestor) -> bool
+    ensures { result ≡ is_field_of_class ancestor }
+{
+    match ancestor {
+        Ancestor::Field(parent, _) => matches!(parent, Parent::Class(_)),
+        Ancestor::None => false,
+    }
+}
+
+fn has_class(above: &[Ancestor]) -> bool
+    ensures { result ≡ has_class above.now }
+{
+    for ancestor in above {
+        if is_field_of_class(*ancestor) {
+            return true;
+        }
+    }
+    false
+}
+
 impl Where {
     // Where the walk is.
     pub(crate) fn of(ctx: &MinifierTraverseCtx) -> Where
@@ -78,6 +100,17 @@ impl Where {
             scope: scopes.scope,
             hoist_scope: scopes.hoist_scope,
             in_with: has_with(ctx.ancestors_above()),
+            in_class: has_class(ctx.ancestors_above()),
+        }
+    }
+
+    // What stands around there.
+    pub(crate) fn surroundings(self) -> Surroundings
+        ensures { result ≡ surroundings_of self }
+    {
+        Surroundings {
+            in_with: self.in_with,
+            in_class: self.in_class,
         }
     }
 }

@@ -25,7 +25,7 @@ fn is_given(value: &[Option<Node>]) -> bool
 fn is_quiet(facts: &Facts, at: Where, value: &[Option<Node>]) -> bool
     ensures { result ≡ rules.is_quiet facts.now at (row value.now) }
 {
-    none_has_side_effects(value, facts.bound, at.in_with) && !(at.in_with && is_given(value))
+    none_has_side_effects(value, facts.bound, at.surroundings()) && !(at.in_with && is_given(value))
 }
 
 #[tactic(auto, using(crate::proofs::Named::declares))]
@@ -138,7 +138,7 @@ pub(crate) fn is_silent_statement(facts: &Facts, at: Where, node: &Node) -> bool
     ensures { result ≡ rules.is_silent_statement facts.now at node.now.kind node.now.below }
 {
     matches!(node.kind(), NodeKind::ExpressionStatement)
-        && none_has_side_effects(node.children(), facts.bound, at.in_with)
+        && none_has_side_effects(node.children(), facts.bound, at.surroundings())
 }
 
 pub(crate) fn item_goes(facts: &Facts, at: Where, node: &Node) -> bool

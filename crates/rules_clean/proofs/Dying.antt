@@ -8,8 +8,6 @@ use Rattle.js_syntax.specs.declared.kind.VariableKind.{VariableKind}
 use Rattle.js_syntax.specs.Node.{Forest, Tree, Note, nothing, node, absent, alone}
 use Rattle.js_effects.specs.Silence.{is_marked, may_have_effects}
 use Rattle.min_context.specs.Place.{Place, place_at, goes_on}
-use Rattle.min_pass.specs.declared.around.Around.{Around as Asked}
-use Rattle.min_pass.specs.Around.{outermost as asked_of_program}
 use Rattle.min_pass.specs.Pass.{unmarked as without_mark}
 use Rattle.scope_rules.specs.ScopeFlags as scope_flag
 use Rattle.scope_table.specs.Reading.{symbol_at}
@@ -26,13 +24,13 @@ use Rattle.steps.specs.Allowed.UnusedDeclarator.{a_declarator}
 use Rattle.steps.specs.Marked.Flags.{scope_has, is_sloppy_block}
 use Rattle.headline.specs.Clean.{CleanBut, IsDead, an_empty_statement, an_empty_block, a_silent_statement, an_idle_body, an_unused_function, an_unused_declarator, a_value_of_an_unused_name}
 use Rattle.js_syntax.proofs.Truth.{not_true}
-use Rattle.rules.specs.DeadCode.Rules.{Facts, Where, has_with, where_of, scope_of, is_unlisted, is_global, function_is_unused, variable_is_unused, is_silent_statement, one_goes, item_has_dead, has_dead, is_idle_body, becomes_empty, stated}
+use Rattle.rules.specs.DeadCode.Rules.{Facts, Where, surroundings_below, where_of, scope_of, is_unlisted, is_global, function_is_unused, variable_is_unused, is_silent_statement, one_goes, item_has_dead, has_dead, is_idle_body, becomes_empty, stated}
 use Rattle.rules.specs.DeadCode.Knows.{Knows}
 use Rattle.rules.specs.DeadCode.Quiet.{IsQuiet}
 use Rattle.rules.proofs.DeadCode.Keeping.{Known}
 use Rattle.rules.proofs.DeadCode.LaidOut.{is_laid_at, laid_here}
 use Rattle.rules.proofs.DeadCode.Bodies.{idle_empties}
-use Rattle.rules.proofs.DeadCode.Places.{to, plugged, join, plug_join, is_row, asked_to, with_is}
+use Rattle.rules.proofs.DeadCode.Places.{to, plugged, join, plug_join, is_row, surroundings_there}
 use Rattle.rules.proofs.DeadCode.Stating.{states, value_stated}
 use Rattle.rules.proofs.Expressions.Becoming.{none_of}
 use Rattle.rules.proofs.DeadCode.Leaving.{Quiet, statement_silent, function_unused, declarator_unused}
@@ -87,8 +85,8 @@ module _ (f : Facts) where
       dead_there f a y rest
       (a_silent_statement b n (alone k l inner)
       (statement_silent f h.marked b n l k inner (knows_there f h.marked a (first rest) y h.knows)
-      (subst (λ c. may_have_effects f.bound c (alone k l inner) ≡ false) (sym (ap (λ (w : Asked). w.in_with) (asked_to (asked_of_program true) a (first rest)) ∙ with_is a (goes_on rest)))
-      (not_true (may_have_effects f.bound (has_with (place_at a (goes_on rest)).ancestors) (alone k l inner)) e))))
+      (subst (λ c. may_have_effects f.bound c (alone k l inner) ≡ false) (sym (surroundings_there a rest))
+      (not_true (may_have_effects f.bound (surroundings_below (place_at a (goes_on rest)).ancestors) (alone k l inner)) e))))
   silent_dead a expression_statement n below rest h laid e = wrong laid
   silent_dead a k n below rest h laid e = wrong e
 
