@@ -112,7 +112,8 @@ GROUPS = [
   ('({ ...[1] });', 'silent', module(ES(an_object(spread(array(L(1)))))), '', 'not silent'),
   ('({ [1]: 2 });', 'silent', module(ES(an_object(prop(L(1), L(2), computed=True)))), '', 'silent'),
   ('({ [[]]: 2 });', 'silent', module(ES(an_object(prop(array(), L(2), computed=True)))), '', 'not silent'),
-  ('this;', 'silent', module(ES(THIS)), '', 'not silent'),
+  ('this;', 'silent', module(ES(THIS)), '', 'silent'),
+  ('this.a;', 'silent', module(ES(mem(THIS, I('a')))), '', 'not silent'),
   ('(class {});', 'silent', module(ES(N('ClassExpression', id=None, superClass=None, body=N('ClassBody', body=[])))), '', 'not silent'),
  ]),
  ('what a walk visits: none below a block', [
