@@ -6,6 +6,8 @@ use Rattle.js_syntax.specs.Node.{Tree, alone}
 use Rattle.scope_laws.specs.Place.{Around, plug}
 use Rattle.steps.proofs.KeepTable.Emptied.{empty_of}
 use Rattle.steps.specs.Allowed.Calls.{is_call, counted}
+use Rattle.steps.specs.Allowed.Places.{in_class_at}
+use Rattle.steps.specs.Allowed.Silent.{inside_of}
 use Rattle.steps.specs.Allowed.SilentStatement.{SilentStatementEmpties, silent_statement_empties}
 use Rattle.steps.proofs.Fit.Enclosing.{fits_enclosed}
 use Rattle.steps.proofs.Fit.Modules.{fits_program}
@@ -29,7 +31,7 @@ pub silent_statement_owes : (a : Around) (x y : Tree) → SilentStatementEmpties
 silent_statement_owes a x y (silent_statement_empties n m l k inner silent) =
     let expression = alone k l inner in
     let old : Tree = record { kind = Kind.ExpressionStatement; note = n; below = expression } in
-    let no_call = there {P = is_call k ≡ false} false _ 0 0 a _ (λ w c next h. silent_is_no_call _ w c next k l inner h) silent in
+    let no_call = there {P = is_call k ≡ false} false _ 0 0 a _ (λ w c next h. silent_is_no_call _ (inside_of (in_class_at a) w) c next k l inner h) silent in
     let t = plug a (Some old) in
     record {
       lighter = Prim.omega arith;

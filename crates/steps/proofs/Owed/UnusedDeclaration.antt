@@ -10,6 +10,7 @@ use Rattle.scope_laws.specs.Place.{Around, plug}
 use Rattle.steps.specs.Allowed.Changing.{holds_items}
 use Rattle.steps.specs.Allowed.Free.{Free}
 use Rattle.steps.specs.Allowed.Places.{asked_at, in_class_at}
+use Rattle.steps.specs.Allowed.Silent.{inside_of}
 use Rattle.steps.specs.Allowed.UnusedDeclaration.{SilentDeclaration, one_declarator, UnusedDeclaration, unused_declaration_leaves}
 use Rattle.steps.specs.Owed.Owed.{IsUnexported, by_going, Leaving}
 use Rattle.steps.proofs.Owed.Focus.{both_there, follows_there}
@@ -31,7 +32,7 @@ unused_declaration_owes a x (unused_declaration_leaves how n m l j name value it
       may_change = inl (and_from (holds_items (asked_at (asked_of_program true) a).row) _ (ap holds_items item) (ap not own));
       unseen = λ e. inl (unseen_declaration a how n m l j name value e silent free);
       unexported = follows_there (λ b c i. SilentDeclaration t how m l inner (in_class_at a) b c i × Free t how name b c i) (IsUnexported t y)
-          (λ b c next h z within right seeks. declaration_out t z.exported c next name z.sought how n m l j value within (λ f p. silent_declares_nothing f (bindings_among (sites_of t)) b _ 1 _ p value h.0.1) h.1 seeks) (Some y) a false (λ at. outermost) 0 0
+          (λ b c next h z within right seeks. declaration_out t z.exported c next name z.sought how n m l j value within (λ f p. silent_declares_nothing f (bindings_among (sites_of t)) (inside_of (in_class_at a) b) _ 1 _ p value h.0.1) h.1 seeks) (Some y) a false (λ at. outermost) 0 0
           (both_there (SilentDeclaration t how m l inner (in_class_at a)) (Free t how name) (Some y) a false (λ at. outermost) 0 0 silent free);
       runs = by_going (λ w good. declaration_step a how n m l j name value w good item silent free);
     }

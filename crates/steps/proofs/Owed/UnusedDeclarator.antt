@@ -10,6 +10,7 @@ use Rattle.scope_laws.specs.Place.{Around, plug}
 use Rattle.steps.specs.Allowed.Changing.{holds_declarators}
 use Rattle.steps.specs.Allowed.Free.{FreeDeclarator}
 use Rattle.steps.specs.Allowed.Places.{asked_at, in_class_at}
+use Rattle.steps.specs.Allowed.Silent.{inside_of}
 use Rattle.steps.specs.Allowed.UnusedDeclarator.{SilentDeclarator, UnusedDeclarator, unused_declarator_leaves}
 use Rattle.steps.specs.Owed.Owed.{IsUnexported, by_going, Leaving}
 use Rattle.steps.proofs.Owed.Focus.{both_there, follows_there}
@@ -31,7 +32,7 @@ unused_declarator_owes a x (unused_declarator_leaves n m name value item others 
       may_change = inl (and_from (holds_declarators (asked_at (asked_of_program true) a).row) _ (ap holds_declarators item) (ap not own));
       unseen = λ e. inl (unseen_declarator a n m name value e silent free);
       unexported = follows_there (λ b c i. SilentDeclarator t inner (in_class_at a) b c i × FreeDeclarator t name b c i) (IsUnexported t y)
-          (λ b c next h z within right seeks. declarator_out t z.exported c next name z.sought n m value within (λ f p. silent_declares_nothing f (bindings_among (sites_of t)) b _ 1 _ p value h.0.1) h.1 seeks) (Some y) a false (λ at. outermost) 0 0
+          (λ b c next h z within right seeks. declarator_out t z.exported c next name z.sought n m value within (λ f p. silent_declares_nothing f (bindings_among (sites_of t)) (inside_of (in_class_at a) b) _ 1 _ p value h.0.1) h.1 seeks) (Some y) a false (λ at. outermost) 0 0
           (both_there (SilentDeclarator t inner (in_class_at a)) (FreeDeclarator t name) (Some y) a false (λ at. outermost) 0 0 silent free);
       runs = by_going (λ w good. declarator_step a n m name value w good item others silent free);
     }
