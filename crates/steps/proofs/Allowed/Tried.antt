@@ -11,10 +11,10 @@ use Rattle.form_rules.specs.Samples.{a_module, a, binds, reads, listed, no, one,
 use Rattle.scope_rules.specs.Context.{body_of}
 use Rattle.scope_rules.specs.Binding.{named_in}
 use Rattle.scope_rules.specs.Samples.{imports}
-use Rattle.scope_laws.specs.Place.{Around, first, behind, under}
+use Rattle.scope_laws.specs.Place.{Around, first, behind, under, plug}
 use Rattle.min_pass.specs.Around.{outermost as asked_of_program}
 use Rattle.steps.specs.Allowed.Uses.{Use, use_at, stands_bare}
-use Rattle.steps.specs.Allowed.Places.{a_node, asked_at, At, MayStandBare}
+use Rattle.steps.specs.Allowed.Places.{a_node, asked_at, in_class_at, At, MayStandBare}
 use Rattle.steps.specs.Allowed.Free.{IsFree}
 use Rattle.steps.specs.Allowed.SilentStatement.{SilentStatement, silent_statement_empties}
 use Rattle.steps.specs.Allowed.EmptyStatement.{empty_statement_leaves}
@@ -27,10 +27,18 @@ use Rattle.steps.specs.Allowed.KnownSide.{right_side_counts, left_side_decides}
 use Rattle.steps.specs.Allowed.KnownIf.{an_if, KnownIf, consequent_is_run, alternate_is_run}
 use Rattle.steps.specs.Allowed.DeadIf.{DeadIf, nothing_is_run}
 use Rattle.steps.specs.Allowed.Edits.{Edit, leaves, becomes, empty_statement, silent_statement, unused_function, unused_declaration, unused_import, repeated_import, known_conditional, known_side, known_if, dead_if}
-use Rattle.steps.specs.Allowed.Rows.{loop, in_list, before, call_of_a, null, if_one, if_null, either_way, conditional, logical, may_be_named, o_f, parenthesized, in_statement, called, called_in_parentheses, called_in_with, argument, operand, applied, assigned, statement, ComesOut, Stays, array, with_a, in_with_a, empty, a_is_read, a_is_exported, imports_nothing, behind_import, only_import, tried, loop}
+use Rattle.steps.specs.Allowed.Rows.{loop, in_list, before, call_of_a, null, if_one, if_null, either_way, conditional, logical, may_be_named, o_f, parenthesized, in_statement, called, called_in_parentheses, called_in_with, in_class_a, this, argument, operand, applied, assigned, statement, ComesOut, Stays, array, with_a, in_with_a, empty, a_is_read, a_is_exported, imports_nothing, behind_import, only_import, tried, loop}
 
 pub empties_in_list : Edit (a_module (does one ∷ [])) (a_module (empty ∷ []))
 empties_in_list = becomes (before []) _ _ (silent_statement (silent_statement_empties nowhere nowhere nowhere _ nothing (inl refl, tt)))
+
+pub this_empties : Edit (a_module (does this ∷ [])) (a_module (empty ∷ []))
+this_empties = becomes (before []) _ _ (silent_statement (silent_statement_empties nowhere nowhere nowhere _ nothing (inr (inl refl), tt)))
+
+pub this_in_class : At in_class_a (a_node Kind.ExpressionStatement nowhere this) (SilentStatement (plug in_class_a (a_node Kind.ExpressionStatement nowhere this)) this (in_class_at in_class_a)) → ⊥
+this_in_class (inl e, rest) = absurd (true≢false (sym e))
+this_in_class (inr (inl e), rest) = absurd (true≢false e)
+this_in_class (inr (inr (parts, below)), rest) = absurd (true≢false (sym parts))
 
 -- behind what is tested
 abbrev pub consequent : Around

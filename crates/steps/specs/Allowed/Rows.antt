@@ -2,6 +2,7 @@
 use Rattle.std.specs.Prelude.{ℕ, List, [], ◌∷◌, pos, Bool, true, false, Some, None, codes}
 use Rattle.js_syntax.specs.declared.node_kind.NodeKind.{NodeKind as Kind}
 use Rattle.js_syntax.specs.declared.scalar.SourceType.TheVariants as source_type
+use Rattle.js_syntax.specs.declared.kind.ClassKind.TheVariants as class_kind
 use Rattle.js_syntax.specs.declared.kind.FunctionKind.TheVariants as function_kind
 use Rattle.js_syntax.specs.declared.kind.PropertyKind.TheVariants as property
 use Rattle.js_syntax.specs.declared.kind.VariableKind.{VariableKind}
@@ -19,7 +20,7 @@ use Rattle.js_syntax.specs.declared.value.ModuleName.{ModuleName}
 use Rattle.js_syntax.specs.declared.value.ModuleName.TheVariants as module_name
 use Rattle.js_syntax.specs.Node.{Forest, Tree, nothing, node, nowhere, joined}
 use Rattle.form_rules.specs.Samples.{over, leaf, row, listed, no, a_module, a, binds, reads, one, does, declares, let_, var_, a_script, block, function_of}
-use Rattle.scope_laws.specs.Place.{Around, first, behind, under, plug}
+use Rattle.scope_laws.specs.Place.{Around, first, behind, behind_none, under, plug}
 use Rattle.steps.specs.Allowed.Places.{a_node}
 use Rattle.steps.specs.Allowed.KnownConditional.{a_conditional, KnownConditional}
 use Rattle.steps.specs.Allowed.UnusedOperation.{UnusedOperation}
@@ -361,6 +362,15 @@ in_with_a = in_with (first nothing)
 -- of e in e() there
 abbrev pub called_in_with : Around
 called_in_with = in_with (under Kind.ExpressionStatement nowhere (under (Kind.CallExpression false false) nowhere (first (listed Kind.Arguments [])) nothing) nothing)
+
+abbrev pub this : Forest
+this = leaf Kind.ThisExpression
+
+-- the place of the item in class a { static { item } }
+abbrev pub in_class_a : Around
+in_class_a =
+    let body = under Kind.ClassBody nowhere (under Kind.Members nowhere (under Kind.StaticBlock nowhere (under Kind.Statements nowhere (first nothing) nothing) nothing) nothing) nothing in
+    under (Kind.Program source_type.Module) nowhere (under Kind.Statements nowhere (under (Kind.Class class_kind.Declaration) nowhere (past (binds a) (behind_none body)) nothing) nothing) nothing
 
 abbrev pub empty : Forest
 empty = leaf Kind.EmptyStatement

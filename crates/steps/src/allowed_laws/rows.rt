@@ -13,8 +13,8 @@ ghost use Rattle.form_rules.specs.Samples.{a_module, over, a, binds, reads, list
 ghost use Rattle.scope_rules.specs.Context.{body_of};
 ghost use Rattle.scope_rules.specs.Binding.{named_in};
 ghost use Rattle.scope_rules.specs.Samples.{b, imports};
-ghost use Rattle.scope_laws.specs.Place.{Around, first, under};
-ghost use Rattle.steps.specs.Allowed.Places.{a_node, At};
+ghost use Rattle.scope_laws.specs.Place.{Around, first, under, plug};
+ghost use Rattle.steps.specs.Allowed.Places.{a_node, in_class_at, At};
 ghost use Rattle.steps.specs.Allowed.Free.{IsFree};
 ghost use Rattle.steps.specs.Allowed.SilentStatement.{SilentStatement};
 ghost use Rattle.steps.specs.Allowed.UnusedDeclaration.{a_declaration, SilentDeclaration};
@@ -35,13 +35,14 @@ ghost use Rattle.steps.specs.Allowed.EmptyIf.{EmptyIf};
 ghost use Rattle.steps.specs.Allowed.EmptyAlternate.{EmptyAlternate};
 ghost use Rattle.steps.specs.Allowed.EmptyBlock.{EmptyBlock};
 ghost use Rattle.steps.specs.Allowed.Edits.{Edit};
-ghost use Rattle.steps.specs.Allowed.Rows.{before, breaks_label, labeled, labeled_too, tried, tried_finally, finally_alone, while_, for_, loop, branch_of_if, in_list, past, in_branch, in_function, in_function_by, value_of_a, zero, debugger, throwing_block, throwing_branch, broken_label, throws, behind_throw, call_of_a, null, if_one, if_null, either_way, conditional, logical, may_be_named, o_f, parenthesized, called, called_in_parentheses, called_in_with, argument, second_part, operand, applied, equals, difference, sum, text, empty_text, template, tagged, assigned, statement, ComesOut, Stays, StaysUnused, array, spread, hole, sequence, ListStays, ChoiceStays, PartsStay, SidesStay, object, a_is, b_is, getter_of_a, keyed_by, method_by, not_a, ObjectStays, literal, operation, OperationStays, behind_zero, placed, StaysDirect, FollowsNone, with_a, in_with_a, empty, a_is_read, a_is_exported, imports_nothing, behind_import, behind_other, call_of_eval, takes_from, takes_from_other, default_name, namespace_name, name_as, text_as, imports_other, shows, shown_as, passes_from, passed_as, passes_namespace};
+ghost use Rattle.steps.specs.Allowed.Rows.{before, breaks_label, labeled, labeled_too, tried, tried_finally, finally_alone, while_, for_, loop, branch_of_if, in_list, past, in_branch, in_function, in_function_by, value_of_a, zero, debugger, throwing_block, throwing_branch, broken_label, throws, behind_throw, call_of_a, null, if_one, if_null, either_way, conditional, logical, may_be_named, o_f, parenthesized, called, called_in_parentheses, called_in_with, argument, second_part, operand, applied, equals, difference, sum, text, empty_text, template, tagged, assigned, statement, ComesOut, Stays, StaysUnused, array, spread, hole, sequence, ListStays, ChoiceStays, PartsStay, SidesStay, object, a_is, b_is, getter_of_a, keyed_by, method_by, not_a, ObjectStays, literal, operation, OperationStays, behind_zero, placed, StaysDirect, FollowsNone, with_a, in_with_a, in_class_a, this, empty, a_is_read, a_is_exported, imports_nothing, behind_import, behind_other, call_of_eval, takes_from, takes_from_other, default_name, namespace_name, name_as, text_as, imports_other, shows, shown_as, passes_from, passed_as, passes_namespace};
 
-/// A statement of a literal becomes empty, in a list and alone, and leaves the list then.
+/// A statement of a literal becomes empty, in a list and alone, and leaves the list then; so does one of `this`.
 pub fn silent_statements_go()
     ensures in_a_list { Edit (a_module (does one ∷ [])) (a_module (empty ∷ [])) }
     ensures alone { Edit (a_module (if_one (does one) ∷ [])) (a_module (if_one empty ∷ [])) }
     ensures then { Edit (a_module (empty ∷ [])) (a_module []) }
+    ensures this { Edit (a_module (does this ∷ [])) (a_module (empty ∷ [])) }
 {}
 
 /// A call isn't silent, nor is a name that nothing declares.
@@ -56,6 +57,11 @@ pub fn nothing_is_known_in_with()
     ensures name { At in_with_a (a_node Kind.ExpressionStatement nowhere (reads a)) (SilentStatement (with_a (does (reads a))) (reads a) false) → ⊥ }
     ensures read { At in_with_a (a_declaration variable.Let nowhere nowhere nowhere nowhere a (reads a)) (SilentDeclaration (with_a (declares variable.Let (binds a) (reads a))) variable.Let nowhere nowhere (joined (binds a) (reads a)) false) → ⊥ }
     ensures given { At in_with_a (a_declaration variable.Var nowhere nowhere nowhere nowhere a one) (SilentDeclaration (with_a (declares variable.Var (binds a) one)) variable.Var nowhere nowhere (joined (binds a) one) false) → ⊥ }
+{}
+
+/// Inside of a class `this` isn't silent, since it may have no value yet.
+pub fn this_stays_in_classes()
+    ensures { At in_class_a (a_node Kind.ExpressionStatement nowhere this) (SilentStatement (plug in_class_a (a_node Kind.ExpressionStatement nowhere this)) this (in_class_at in_class_a)) → ⊥ }
 {}
 
 /// A variable and a function that nothing refers to go.
