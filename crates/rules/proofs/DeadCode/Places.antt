@@ -12,6 +12,7 @@ use Rattle.scope_laws.specs.Place as places
 use Rattle.scope_laws.specs.Place.{Around, first}
 use Rattle.scope_laws.specs.Lists.{without}
 use Rattle.scope_counts.specs.Edits as counts
+use Rattle.js_syntax.proofs.Truth.{or_false, or_associates}
 use Rattle.steps.specs.Allowed.Places.{asked_at, surroundings_asked, surroundings_at, has_node, has_other}
 use Rattle.steps.specs.Allowed.Silent.{inside_of}
 use Rattle.rules.specs.DeadCode.Rules.{is_field_of_with, has_with, is_field_of_class, has_class, surroundings_below}
@@ -143,15 +144,7 @@ field_of_with k at previous more = refl
 
 pub with_last : (above : List Ancestor) (a : Ancestor) → has_with (above ++ (a ∷ [])) ≡ has_with above || is_field_of_with a
 with_last [] a = or_false (is_field_of_with a)
-  where
-    or_false : (b : Bool) → b || false ≡ b
-    or_false true = refl
-    or_false false = refl
-with_last (b ∷ above) a = ap (λ c. is_field_of_with b || c) (with_last above a) ∙ or_or (is_field_of_with b) (has_with above) (is_field_of_with a)
-  where
-    or_or : (b c d : Bool) → b || (c || d) ≡ (b || c) || d
-    or_or true c d = refl
-    or_or false c d = refl
+with_last (b ∷ above) a = ap (λ c. is_field_of_with b || c) (with_last above a) ∙ or_associates (is_field_of_with b) (has_with above) (is_field_of_with a)
 
 with_row : (w : Asked) (s : Spot) (a : counts.Around) (more : Bool) → ((at : ℕ) (previous more : Bool) → w.in_with ≡ has_with (place_below s.outer s.above at previous more).ancestors) → (asked_row w a).in_with ≡ has_with (place_of (spot s a) more).ancestors
 with_row w s counts.here more h = h s.at s.previous more
@@ -172,7 +165,7 @@ field_of_class (Kind.Class how) at previous more = refl
 field_of_class k at previous more = refl
 
 pub class_last : (above : List Ancestor) (a : Ancestor) → has_class (above ++ (a ∷ [])) ≡ has_class above || is_field_of_class a
-class_last [] a = sym (or_false (is_field_of_class a))
+class_last [] a = or_false (is_field_of_class a)
 class_last (b ∷ above) a = ap (λ c. is_field_of_class b || c) (class_last above a) ∙ or_associates (is_field_of_class b) (has_class above) (is_field_of_class a)
 
 class_row : (w : Asked) (s : Spot) (a : counts.Around) (more : Bool) → ((at : ℕ) (previous more : Bool) → w.in_class ≡ has_class (place_below s.outer s.above at previous more).ancestors) → (asked_row w a).in_class ≡ has_class (place_of (spot s a) more).ancestors
