@@ -12,7 +12,7 @@ use Rattle.js_syntax.specs.Facts.{weight, is_core}
 use Rattle.js_syntax.specs.Node.{Note, Forest, Tree, nothing, node, absent, joined, forest_of, total}
 use Rattle.js_syntax.specs.Table.{a_sequence_expression}
 use Rattle.js_syntax.proofs.Truth.{both, first_of_neither}
-use Rattle.js_effects.specs.Silence.{anywhere, has_effect, may_have_effects}
+use Rattle.js_effects.specs.Silence.{anywhere as wherever, has_effect, may_have_effects}
 use Rattle.js_tree.specs.Count.{lower, levels_at, levels}
 use Rattle.js_tree.specs.Walk.{is_list}
 use Rattle.js_rebuilt.specs.Rebuilt.{MayBeBuilt, Rebuilt, ends, stays, leaves, opened, built}
@@ -137,14 +137,14 @@ function_more function_kind.Declaration pure = Prim.omega arith
 function_more function_kind.Expression pure = Prim.omega arith
 function_more function_kind.Arrow pure = Prim.omega arith
 
-inside_more : (l : Kind) (m : Note) (b r : Forest) → (may_have_effects [] anywhere (node l m b r) || false) ≡ false → not (is_list l) ≡ true → 1 ≤ total weight (node l m b r)
+inside_more : (l : Kind) (m : Note) (b r : Forest) → (may_have_effects [] wherever (node l m b r) || false) ≡ false → not (is_list l) ≡ true → 1 ≤ total weight (node l m b r)
 inside_more l m b r idle one = each (is_list l) refl one
   where
-    whole : may_have_effects [] anywhere (node l m b r) ≡ false
-    whole = first_of_neither (may_have_effects [] anywhere (node l m b r)) false idle
+    whole : may_have_effects [] wherever (node l m b r) ≡ false
+    whole = first_of_neither (may_have_effects [] wherever (node l m b r)) false idle
 
     acting : acts l m b ≡ false
-    acting = ap (λ c. c || false) (first_of_neither (has_effect [] anywhere l m b (may_have_effects [] anywhere b)) (may_have_effects [] anywhere r) whole)
+    acting = ap (λ c. c || false) (first_of_neither (has_effect [] wherever l m b (may_have_effects [] wherever b)) (may_have_effects [] wherever r) whole)
 
     each : (c : Bool) → is_list l ≡ c → not c ≡ true → 1 ≤ total weight (node l m b r)
     each true is e = absurd (true≢false (sym e))

@@ -21,7 +21,7 @@ use Rattle.js_effects.specs.declared.value.ConstantValue.{ConstantValue}
 use Rattle.js_effects.specs.declared.value.ConstantValue.TheVariants as constant
 use Rattle.js_effects.specs.declared.value.ValueType.{ValueType}
 use Rattle.js_effects.specs.Answers.{bare_answers}
-use Rattle.js_effects.specs.Silence.{runs_its_parts, anywhere, has_effect, may_have_effects}
+use Rattle.js_effects.specs.Silence.{runs_its_parts, anywhere as wherever, has_effect, may_have_effects}
 use Rattle.js_effects.specs.Values.{Known, exactly, unknown as not_known, value as value_known, value_of, literal_constant, on_known_numbers}
 use Rattle.js_effects_quiet.specs.Quiet as quiet
 use Rattle.js_effects_quiet.specs.Silent.{QuietNode}
@@ -176,9 +176,9 @@ at_most (value.Boolean b) = Prim.omega arith
 operand_idle : (o : UnaryOperator) (n : Note) (k : Kind) (i : Note) (a rest : Forest) → acts (unary_expression o) n (node k i a rest) ≡ false → acts k i a ≡ false
 operand_idle o n k i a rest e =
     let below = node k i a rest in
-    let whole = first_of_neither (has_effect [] anywhere (unary_expression o) n below (may_have_effects [] anywhere below)) false e in
-    let parts = idle_below (runs_its_parts (unary_expression o) below) (may_have_effects [] anywhere below) whole in
-    or_nothing (has_effect [] anywhere k i a (may_have_effects [] anywhere a)) (first_of_neither (has_effect [] anywhere k i a (may_have_effects [] anywhere a)) (may_have_effects [] anywhere rest) parts)
+    let whole = first_of_neither (has_effect [] wherever (unary_expression o) n below (may_have_effects [] wherever below)) false e in
+    let parts = idle_below (runs_its_parts (unary_expression o) below) (may_have_effects [] wherever below) whole in
+    or_nothing (has_effect [] wherever k i a (may_have_effects [] wherever a)) (first_of_neither (has_effect [] wherever k i a (may_have_effects [] wherever a)) (may_have_effects [] wherever rest) parts)
   where
     idle_below : (r b : Bool) → (not r || b) ≡ false → b ≡ false
     idle_below true b e = e
