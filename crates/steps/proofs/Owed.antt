@@ -124,3 +124,4 @@ pub mod CallWays
 pub mod CallEntries
 pub mod CallBeside
 pub mod SilentCall
+pub mod KeptNames

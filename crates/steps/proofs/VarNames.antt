@@ -12,3 +12,7 @@ pub mod Weighs
 pub mod Stands
 pub mod Formed
 pub mod Alike
+pub mod Table
+pub mod Runs
+pub mod Place
+pub mod Left

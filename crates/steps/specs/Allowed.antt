@@ -47,3 +47,4 @@ pub mod Changing
 pub mod SilentCall
 pub mod ValueRows
 pub mod SilentCallRows
+pub mod KeptNames

@@ -11,7 +11,7 @@ use Rattle.form_rules.specs.declared.sought.Sought.TheVariants.{Scope as scope}
 use Rattle.form_rules.specs.declared.sought.Sort.TheVariants.{Lexical as lexical}
 use Rattle.form_rules.specs.Scope.{Declared}
 use Rattle.form_rules.specs.Rules.{Exported, is_exported, is_declared, exports_of, named_by, all_named, exported_by, exported_among, first_below, local_of, locals_named, locals_by, locals_among, undeclared}
-use Rattle.steps.specs.KeepForm.Sheds.{may_leave, Around, entered, outermost, Sheds, ends, keeps_absent, keeps, leaves, empties, empties_idle, states, becomes}
+use Rattle.steps.specs.KeepForm.Sheds.{may_leave, Around, entered, outermost, Sheds, ends, keeps_absent, keeps, leaves, empties, empties_idle, leaves_names, states, becomes}
 use Rattle.steps.proofs.KeepForm.Asked.{old_unasked, new_unasked, no_export_named, no_local_named, exports_nothing, exports_no_local, asked_there, not_asked}
 use Rattle.steps.proofs.KeepForm.Fewer.{Fewer, none, both, more, fewest, behind_all, beside, SameName, SameExport}
 use Rattle.steps.proofs.KeepForm.ShedNames.{fewer_declared, one_of_both}
@@ -41,6 +41,7 @@ named_fewer p q (leaves {k = k} {n = n} {a = a} {r = r} may out strict rest) = n
 named_fewer p q (empties may rest) = named_fewer p q rest
 named_fewer p q (empties_idle {k = k} {n = n} {a = a} {r = r} idle loops may unnamed rest) = named_less k n q a r (named_fewer p q rest)
 named_fewer p q (states listed unasked out rest) = named_fewer p q rest
+named_fewer p q (leaves_names {k = k} {n = n} {a = a} {r = r} listed unasked stay rest) = named_less k n q a r (named_fewer p q rest)
 named_fewer p q (becomes {k = k} {l = l} {n = n} {m = m} {a = a} {b = b} {r = r} {s = s} part may bare rest) =
     rw (no_export_named l m p b s (new_unasked part), no_export_named k n q a r (old_unasked part)) (named_fewer p q rest)
 
@@ -52,6 +53,7 @@ named_first p q stays asked (leaves may out strict rest) = absurd (cc (stays, ma
 named_first p q stays asked (empties {a = a} may rest) = fewest (named_by q a)
 named_first p q stays asked (empties_idle {a = a} idle loops may unnamed rest) = fewest (named_by q a)
 named_first p q stays asked (states listed unasked out rest) = absurd cc
+named_first p q stays asked (leaves_names listed unasked stay rest) = absurd (cc (stays, ap may_leave listed))
 named_first p q stays asked (becomes {w = w} {k = k} part may bare rest) = absurd (cc (asked, not_asked w k may))
 
 local_node : (k : Kind) (n m : Note) (p q : ℕ) (a b r s : Forest) → FewerExports (local_of p (node k m b s)) (local_of q (node k n a r))
@@ -66,6 +68,7 @@ local_fewer p q stays asked (leaves may out strict rest) = absurd (cc (stays, ma
 local_fewer p q stays asked (empties may rest) = none
 local_fewer p q stays asked (empties_idle {k = k} {n = n} {a = a} {r = r} idle loops may unnamed rest) = fewest (local_of q (node k n a r))
 local_fewer p q stays asked (states listed unasked out rest) = absurd cc
+local_fewer p q stays asked (leaves_names listed unasked stay rest) = absurd (cc (stays, ap may_leave listed))
 local_fewer p q stays asked (becomes {w = w} {k = k} part may bare rest) = absurd (cc (asked, not_asked w k may))
 
 locals_node : (w : Around) (k : Kind) (n m : Note) (p q : ℕ) (a b r s : Forest) → Sheds (entered w k a) a b → FewerExports (locals_named p s) (locals_named q r) → FewerExports (locals_named p (node k m b s)) (locals_named q (node k n a r))
@@ -84,6 +87,7 @@ locals_named_fewer p q (leaves {k = k} {n = n} {a = a} {r = r} may out strict re
 locals_named_fewer p q (empties may rest) = locals_named_fewer p q rest
 locals_named_fewer p q (empties_idle {k = k} {n = n} {a = a} {r = r} idle loops may unnamed rest) = locals_less k n q a r (locals_named_fewer p q rest)
 locals_named_fewer p q (states listed unasked out rest) = locals_named_fewer p q rest
+locals_named_fewer p q (leaves_names {k = k} {n = n} {a = a} {r = r} listed unasked stay rest) = locals_less k n q a r (locals_named_fewer p q rest)
 locals_named_fewer p q (becomes {k = k} {l = l} {n = n} {m = m} {a = a} {b = b} {r = r} {s = s} part may bare rest) =
     rw (no_local_named l m p b s (new_unasked part), no_local_named k n q a r (old_unasked part)) (locals_named_fewer p q rest)
 
@@ -95,6 +99,7 @@ locals_first p q stays asked (leaves may out strict rest) = absurd (cc (stays, m
 locals_first p q stays asked (empties {a = a} may rest) = fewest (locals_named q a)
 locals_first p q stays asked (empties_idle {a = a} idle loops may unnamed rest) = fewest (locals_named q a)
 locals_first p q stays asked (states listed unasked out rest) = absurd cc
+locals_first p q stays asked (leaves_names listed unasked stay rest) = absurd (cc (stays, ap may_leave listed))
 locals_first p q stays asked (becomes {w = w} {k = k} part may bare rest) = absurd (cc (asked, not_asked w k may))
 
 -- ---- exports
@@ -125,6 +130,7 @@ exported_fewer p q (leaves {k = k} {n = n} {a = a} may out strict rest) = behind
 exported_fewer p q (empties may rest) = exported_fewer _ _ rest
 exported_fewer p q (empties_idle {k = k} {a = a} idle loops may unnamed rest) = behind_all (exported_by k q a) (exported_fewer _ _ rest)
 exported_fewer p q (states listed unasked out rest) = exported_fewer _ _ rest
+exported_fewer p q (leaves_names {k = k} {n = n} {a = a} {r = r} listed unasked stay rest) = behind_all (exported_by k q a) (exported_fewer _ _ rest)
 exported_fewer p q (becomes {k = k} {l = l} {n = n} {m = m} {a = a} {b = b} {r = r} {s = s} part may bare rest) =
     rw (exports_nothing l p b (new_unasked part), exports_nothing k q a (old_unasked part)) (exported_fewer _ _ rest)
 
@@ -136,6 +142,7 @@ exported_first p q stays asked (leaves may out strict rest) = absurd (cc (stays,
 exported_first p q stays asked (empties {a = a} may rest) = fewest (exported_among q a)
 exported_first p q stays asked (empties_idle {a = a} idle loops may unnamed rest) = fewest (exported_among q a)
 exported_first p q stays asked (states listed unasked out rest) = absurd cc
+exported_first p q stays asked (leaves_names listed unasked stay rest) = absurd (cc (stays, ap may_leave listed))
 exported_first p q stays asked (becomes {w = w} {k = k} part may bare rest) = absurd (cc (asked, not_asked w k may))
 
 -- ---- the names of the module that are exported
@@ -155,6 +162,7 @@ locals_fewer p q (leaves {k = k} {n = n} {a = a} may out strict rest) = behind_a
 locals_fewer p q (empties may rest) = locals_fewer _ _ rest
 locals_fewer p q (empties_idle {k = k} {a = a} idle loops may unnamed rest) = behind_all (locals_by k q a) (locals_fewer _ _ rest)
 locals_fewer p q (states listed unasked out rest) = locals_fewer _ _ rest
+locals_fewer p q (leaves_names {k = k} {n = n} {a = a} {r = r} listed unasked stay rest) = behind_all (locals_by k q a) (locals_fewer _ _ rest)
 locals_fewer p q (becomes {k = k} {l = l} {n = n} {m = m} {a = a} {b = b} {r = r} {s = s} part may bare rest) =
     rw (exports_no_local l p b (new_unasked part), exports_no_local k q a (old_unasked part)) (locals_fewer _ _ rest)
 
@@ -166,6 +174,7 @@ locals_below_first p q stays asked (leaves may out strict rest) = absurd (cc (st
 locals_below_first p q stays asked (empties {a = a} may rest) = fewest (locals_among q a)
 locals_below_first p q stays asked (empties_idle {a = a} idle loops may unnamed rest) = fewest (locals_among q a)
 locals_below_first p q stays asked (states listed unasked out rest) = absurd cc
+locals_below_first p q stays asked (leaves_names listed unasked stay rest) = absurd (cc (stays, ap may_leave listed))
 locals_below_first p q stays asked (becomes {w = w} {k = k} part may bare rest) = absurd (cc (asked, not_asked w k may))
 
 exported_in_more : (x : List ℕ) {ds es : List Exported} → FewerExports ds es → is_exported x ds ≡ true → is_exported x es ≡ true

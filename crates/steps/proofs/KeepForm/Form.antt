@@ -1,8 +1,8 @@
 -- What is left of a program that breaks no rule of form breaks none.
-use Rattle.std.proofs.Common.{◌≡◌, ℕ, ◌+◌, suc, List, [], ◌∷◌, ◌++◌, ◌&&◌, Bool, true, false, not, None, refl, sym, ap, ◌∙◌}
+use Rattle.std.proofs.Common.{◌≡◌, ℕ, ◌+◌, suc, List, [], ◌∷◌, ◌++◌, ◌&&◌, Bool, true, false, not, if◌then◌else◌, None, refl, sym, ap, ◌∙◌, append-nil}
 use Rattle.js_tree.specs.Count.{one_each, node_count}
 use Rattle.js_syntax.specs.declared.node_kind.NodeKind.{NodeKind as Kind}
-use Rattle.js_syntax.specs.declared.node_kind.NodeKind.TheVariants.{Program as program, EmptyStatement as empty_statement, ExpressionStatement as expression_statement, IfStatement as if_statement, VariableDeclaration as variable_declaration, Declarators as declarators, VariableDeclarator as variable_declarator, BindingName as binding_name}
+use Rattle.js_syntax.specs.declared.node_kind.NodeKind.TheVariants.{Program as program, Statements as statements, EmptyStatement as empty_statement, ExpressionStatement as expression_statement, IfStatement as if_statement, VariableDeclaration as variable_declaration, Declarators as declarators, ImportDeclaration as import_declaration, Specifiers as specifiers, VariableDeclarator as variable_declarator, BindingName as binding_name}
 use Rattle.js_syntax.specs.Node.{Note, Forest, nothing, node, absent, joined, alone}
 use Rattle.js_syntax.specs.declared.kind.VariableKind.{VariableKind}
 use Rattle.form_rules.specs.declared.rule.Break.{Break}
@@ -11,8 +11,8 @@ use Rattle.form_rules.specs.Context as context
 use Rattle.form_rules.specs.Context.{Context, below_it, inside}
 use Rattle.form_rules.specs.Rules.{broken_at}
 use Rattle.form_rules.specs.Form.{broken_in, source_of, broken, IsWellFormed}
-use Rattle.steps.specs.KeepForm.Part.{is_asked_for, is_tested, declares_one, StandsFor, Replaces, by_part, by_parts, by_test, without_alternate}
-use Rattle.steps.specs.KeepForm.Sheds.{may_leave, Around, entered, outermost, Sheds, ends, keeps_absent, keeps, leaves, empties, empties_idle, states, becomes}
+use Rattle.steps.specs.KeepForm.Part.{a_var, is_asked_for, is_tested, declares_one, StandsFor, Replaces, by_part, by_parts, by_test, without_alternate}
+use Rattle.steps.specs.KeepForm.Sheds.{Row, parts, items, of_item, of_head, of_import, other, has_statements, row_below, may_leave, Around, entered, outermost, Sheds, ends, keeps_absent, keeps, leaves, empties, empties_idle, leaves_names, states, becomes}
 use Rattle.steps.proofs.KeepForm.Contexts.{inside_same}
 use Rattle.steps.proofs.KeepForm.Asked.{idle_kinds, tested_kinds, old_unasked, new_unasked}
 use Rattle.steps.proofs.KeepForm.Rows.{itself}
@@ -120,29 +120,46 @@ replaced_kept c p q (without_alternate {t = t} {l = l} {i = i} {j = j} {o = o} {
     (moved new (inside c if_statement old) (inside c if_statement new) (λ at. refl) 0 (p + one_each if_statement) (q + one_each if_statement)
     (rest_kept t l i j o d b (inside c if_statement old) (p + one_each if_statement) (second_empty (broken_at c if_statement p old) (broken_in (inside c if_statement old) 0 (p + one_each if_statement) old) h)))
 
+-- no item of a list is the head of a loop
+no_items : (b : Bool) → (if b then parts else other) ≡ items → ⊥
+no_items true e = cc
+no_items false e = cc
+
+unheaded : (row : Row) (c : Context) (k : Kind) (a : Forest) (x : ℕ) → row_below row k ≡ items → (inside c k a x).is_head ≡ false
+unheaded parts c statements a x e = refl
+unheaded items c (variable_declaration how) a x e = absurd cc
+unheaded row c (variable_declaration how) a x e = absurd cc
+unheaded of_item c declarators a x e = absurd cc
+unheaded of_item c k a x e = absurd cc
+unheaded of_head c k a x e = absurd cc
+unheaded row c (import_declaration source) a x e = absurd cc
+unheaded of_import c specifiers a x e = absurd cc
+unheaded of_import c k a x e = absurd cc
+unheaded row c k a x e = absurd (no_items (has_statements k) e)
+
 -- Nodes have the contexts that they had: in a list all have the same one.
-pub form_kept : {w : Around} {t u : Forest} → Sheds w t u → (f g : ℕ → Context) → ((i j : ℕ) → (may_leave w.row ≡ false → i ≡ j) → g j ≡ f i) → (i j p q : ℕ) → (may_leave w.row ≡ false → i ≡ j) → broken_in f i p t ≡ [] → broken_in g j q u ≡ []
-form_kept ends f g same i j p q e h = refl
-form_kept (keeps_absent rest) f g same i j p q e h = form_kept rest f g same (suc i) (suc j) p q (λ d. ap (λ n. suc n) (e d)) h
-form_kept (keeps {w = w} {k = k} {n = n} {m = m} {a = a} {b = b} {r = r} {s = s} one below rest) f g same i j p q e h =
+pub form_kept : {w : Around} {t u : Forest} → Sheds w t u → (f g : ℕ → Context) → ((i j : ℕ) → (may_leave w.row ≡ false → i ≡ j) → g j ≡ f i) → ((i : ℕ) → w.row ≡ items → (f i).is_head ≡ false) → (i j p q : ℕ) → (may_leave w.row ≡ false → i ≡ j) → broken_in f i p t ≡ [] → broken_in g j q u ≡ []
+form_kept ends f g same heads i j p q e h = refl
+form_kept (keeps_absent rest) f g same heads i j p q e h = form_kept rest f g same heads (suc i) (suc j) p q (λ d. ap (λ n. suc n) (e d)) h
+form_kept (keeps {w = w} {k = k} {n = n} {m = m} {a = a} {b = b} {r = r} {s = s} one below rest) f g same heads i j p q e h =
     let front = first_empty (broken_at (f i) k p a ++ broken_in (inside (f i) k a) 0 (p + one_each k) a) (broken_in f (suc i) (p + node_count (node k n a nothing)) r) h in
     let behind = second_empty (broken_at (f i) k p a ++ broken_in (inside (f i) k a) 0 (p + one_each k) a) (broken_in f (suc i) (p + node_count (node k n a nothing)) r) h in
     both_empty (broken_at (g j) k q b ++ broken_in (inside (g j) k b) 0 (q + one_each k) b) (broken_in g (suc j) (q + node_count (node k m b nothing)) s)
     (both_empty (broken_at (g j) k q b) (broken_in (inside (g j) k b) 0 (q + one_each k) b)
     (ap (λ c. broken_at c k q b) (same i j e) ∙ rules_kept w (f i) p q a b k below (first_empty (broken_at (f i) k p a) (broken_in (inside (f i) k a) 0 (p + one_each k) a) front))
-    (form_kept below (inside (f i) k a) (inside (g j) k b) (λ x y d. ap (λ c. inside c k b y) (same i j e) ∙ inside_same w (f i) k a b x y below d) 0 0 (p + one_each k) (q + one_each k) (λ d. refl)
+    (form_kept below (inside (f i) k a) (inside (g j) k b) (λ x y d. ap (λ c. inside c k b y) (same i j e) ∙ inside_same w (f i) k a b x y below d) (λ x is. unheaded w.row (f i) k a x is) 0 0 (p + one_each k) (q + one_each k) (λ d. refl)
     (second_empty (broken_at (f i) k p a) (broken_in (inside (f i) k a) 0 (p + one_each k) a) front)))
-    (form_kept rest f g same (suc i) (suc j) (p + node_count (node k n a nothing)) (q + node_count (node k m b nothing)) (λ d. ap (λ n. suc n) (e d)) behind)
-form_kept (leaves {k = k} {n = n} {a = a} {r = r} may out strict rest) f g same i j p q e h =
-    form_kept rest f g same (suc i) j (p + node_count (node k n a nothing)) q (λ d. absurd (cc (d, may)))
+    (form_kept rest f g same heads (suc i) (suc j) (p + node_count (node k n a nothing)) (q + node_count (node k m b nothing)) (λ d. ap (λ n. suc n) (e d)) behind)
+form_kept (leaves {k = k} {n = n} {a = a} {r = r} may out strict rest) f g same heads i j p q e h =
+    form_kept rest f g same heads (suc i) j (p + node_count (node k n a nothing)) q (λ d. absurd (cc (d, may)))
     (second_empty (broken_at (f i) k p a ++ broken_in (inside (f i) k a) 0 (p + one_each k) a) (broken_in f (suc i) (p + node_count (node k n a nothing)) r) h)
-form_kept (empties {n = n} {m = m} {a = a} {r = r} {s = s} may rest) f g same i j p q e h =
+form_kept (empties {n = n} {m = m} {a = a} {r = r} {s = s} may rest) f g same heads i j p q e h =
     both_empty (broken_at (g j) empty_statement q nothing ++ []) (broken_in g (suc j) (q + node_count (node empty_statement m nothing nothing)) s) (both_empty (broken_at (g j) empty_statement q nothing) [] (empty_keeps (g j) q) refl)
-    (form_kept rest f g same (suc i) (suc j) (p + node_count (node expression_statement n a nothing)) (q + node_count (node empty_statement m nothing nothing)) (λ d. ap (λ n. suc n) (e d))
+    (form_kept rest f g same heads (suc i) (suc j) (p + node_count (node expression_statement n a nothing)) (q + node_count (node empty_statement m nothing nothing)) (λ d. ap (λ n. suc n) (e d))
     (second_empty (broken_at (f i) expression_statement p a ++ broken_in (inside (f i) expression_statement a) 0 (p + one_each expression_statement) a) (broken_in f (suc i) (p + node_count (node expression_statement n a nothing)) r) h))
-form_kept (empties_idle {k = k} {n = n} {m = m} {a = a} {r = r} {s = s} idle loops may unnamed rest) f g same i j p q e h =
+form_kept (empties_idle {k = k} {n = n} {m = m} {a = a} {r = r} {s = s} idle loops may unnamed rest) f g same heads i j p q e h =
     both_empty (broken_at (g j) empty_statement q nothing ++ []) (broken_in g (suc j) (q + node_count (node empty_statement m nothing nothing)) s) (both_empty (broken_at (g j) empty_statement q nothing) [] (empty_keeps (g j) q) refl)
-    (form_kept rest f g same (suc i) (suc j) (p + node_count (node k n a nothing)) (q + node_count (node empty_statement m nothing nothing)) (λ d. ap (λ n. suc n) (e d))
+    (form_kept rest f g same heads (suc i) (suc j) (p + node_count (node k n a nothing)) (q + node_count (node empty_statement m nothing nothing)) (λ d. ap (λ n. suc n) (e d))
     (second_empty (broken_at (f i) k p a ++ broken_in (inside (f i) k a) 0 (p + one_each k) a) (broken_in f (suc i) (p + node_count (node k n a nothing)) r) h))
 form_kept (states {how = how} {x = x} {k = k} {n = n} {m = m} {l = l} {j = j} {i = y} {o = o} {b = b} {r = r} {s = s} listed unasked out rest) f g same i j2 p q e h =
     let value = alone k y b in
@@ -156,13 +173,20 @@ form_kept (states {how = how} {x = x} {k = k} {n = n} {m = m} {l = l} {j = j} {i
     (ap (λ c. broken_at c expression_statement q value ++ broken_in (inside c expression_statement value) 0 (q + one_each expression_statement) value) (same i j2 e)
     ∙ value_kept (f i) how x m l j k y b (p + one_each (variable_declaration how)) q (second_empty own below (first_empty (own ++ below) behind h)))
     (form_kept rest f g same (suc i) (suc j2) (p + node_count (node (variable_declaration how) n all nothing)) (q + node_count (node expression_statement o value nothing)) (λ d. ap (λ n. suc n) (e d)) (second_empty (own ++ below) behind h))
-form_kept (becomes {k = k} {l = l} {n = n} {m = m} {a = a} {b = b} {r = r} {s = s} part may bare rest) f g same i j p q e h =
+form_kept (leaves_names {k = k} {n = n} {m = m} {a = a} {b = b} {r = r} {s = s} listed unasked stay rest) f g same heads i j p q e h =
+    let own = broken_at (f i) k p a ++ broken_in (inside (f i) k a) 0 (p + one_each k) a in
+    let new = broken_at (g j) a_var q b ++ broken_in (inside (g j) a_var b) 0 (q + one_each a_var) b in
+    let behind = broken_in f (suc i) (p + node_count (node k n a nothing)) r in
+    both_empty new (broken_in g (suc j) (q + node_count (node a_var m b nothing)) s)
+    (sym (append-nil new) ∙ stay.keeps f g i j p q (same i j e) (heads i listed) (append-nil own ∙ first_empty own behind h))
+    (form_kept rest f g same heads (suc i) (suc j) (p + node_count (node k n a nothing)) (q + node_count (node a_var m b nothing)) (λ d. ap (λ n. suc n) (e d)) (second_empty own behind h))
+form_kept (becomes {k = k} {l = l} {n = n} {m = m} {a = a} {b = b} {r = r} {s = s} part may bare rest) f g same heads i j p q e h =
     let own = broken_at (f i) k p a in
     let below = broken_in (inside (f i) k a) 0 (p + one_each k) a in
     let behind = broken_in f (suc i) (p + node_count (node k n a nothing)) r in
     both_empty (broken_at (g j) l q b ++ broken_in (inside (g j) l b) 0 (q + one_each l) b) (broken_in g (suc j) (q + node_count (node l m b nothing)) s)
     (ap (λ c. broken_at c l q b ++ broken_in (inside c l b) 0 (q + one_each l) b) (same i j e) ∙ replaced_kept (f i) p q part (first_empty (own ++ below) behind h))
-    (form_kept rest f g same (suc i) (suc j) (p + node_count (node k n a nothing)) (q + node_count (node l m b nothing)) (λ d. ap (λ n. suc n) (e d)) (second_empty (own ++ below) behind h))
+    (form_kept rest f g same heads (suc i) (suc j) (p + node_count (node k n a nothing)) (q + node_count (node l m b nothing)) (λ d. ap (λ n. suc n) (e d)) (second_empty (own ++ below) behind h))
 
 no_source : (k : Kind) (n : Note) (a r : Forest) → is_asked_for k ≡ false → source_of (node k n a r) ≡ source_of nothing
 no_source (program source) n a r h = absurd cc
@@ -184,8 +208,9 @@ source_same stays (leaves may out strict rest) = absurd (cc (stays, may))
 source_same stays (empties may rest) = refl
 source_same stays (empties_idle {k = k} {n = n} {a = a} {r = r} idle loops may unnamed rest) = idle_kinds (λ z. source_of nothing ≡ source_of (node z n a r)) refl refl refl refl refl (λ label. refl) k idle
 source_same stays (states listed unasked out rest) = absurd (cc (stays, ap may_leave listed))
+source_same stays (leaves_names listed unasked stay rest) = absurd (cc (stays, ap may_leave listed))
 source_same stays (becomes {k = k} {l = l} {n = n} {m = m} {a = a} {b = b} {r = r} {s = s} part may bare rest) = no_source l m b s (new_unasked part) ∙ sym (no_source k n a r (old_unasked part))
 
 pub stays_well_formed : (t u : Forest) → Sheds outermost t u → IsWellFormed t → IsWellFormed u
 stays_well_formed t u sheds whole =
-    ap least (form_kept sheds (λ i. context.outermost (source_of t)) (λ j. context.outermost (source_of u)) (λ i j d. ap context.outermost (source_same refl sheds)) 0 0 0 0 (λ d. refl) (none_broken (broken t) whole))
+    ap least (form_kept sheds (λ i. context.outermost (source_of t)) (λ j. context.outermost (source_of u)) (λ i j d. ap context.outermost (source_same refl sheds)) (λ i e. refl) 0 0 0 0 (λ d. refl) (none_broken (broken t) whole))

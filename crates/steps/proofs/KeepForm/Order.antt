@@ -5,8 +5,8 @@ use Rattle.js_syntax.specs.declared.node_kind.NodeKind.TheVariants.{Program as p
 use Rattle.js_syntax.specs.Node.{Note, Forest, nothing, node, absent, joined, alone}
 use Rattle.form_rules.specs.Context.{has_use_strict}
 use Rattle.json_shape.specs.Shape.{is_directive_kind}
-use Rattle.steps.specs.KeepForm.Part.{gives_way, is_statement, is_asked_for, declares_one, Replaces, by_part, by_parts, by_test, without_alternate}
-use Rattle.steps.specs.KeepForm.Sheds.{Row, other, parts, items, of_item, of_declarators, of_head, of_import, row_below, may_leave, may_empty, may_give_way, Around, entered, Sheds, ends, keeps_absent, keeps, leaves, empties, empties_idle, states, becomes}
+use Rattle.steps.specs.KeepForm.Part.{a_var, leaves_names_of, gives_way, is_statement, is_asked_for, declares_one, Replaces, by_part, by_parts, by_test, without_alternate}
+use Rattle.steps.specs.KeepForm.Sheds.{Row, other, parts, items, of_item, of_declarators, of_head, of_import, row_below, may_leave, may_empty, may_give_way, Around, entered, Sheds, ends, keeps_absent, keeps, leaves, empties, empties_idle, leaves_names, states, becomes}
 use Rattle.steps.proofs.KeepForm.Rows.{stays_below, behind_left, is_usual, is_other}
 use Rattle.steps.proofs.KeepForm.Asked.{idle_kinds, old_unasked, new_unasked, alike, statement_may}
 use Rattle.steps.proofs.KeepForm.Seen.{strict_same}
@@ -163,6 +163,7 @@ list_same stays (leaves may out strict rest) = absurd (cc (stays, may))
 list_same stays (empties may rest) = refl
 list_same stays (empties_idle {k = k} {n = n} {a = a} {r = r} idle loops may unnamed rest) = idle_kinds (λ z. false ≡ is_list_first (node z n a r)) refl refl refl refl refl (λ label. refl) k idle
 list_same stays (states listed unasked out rest) = absurd (cc (stays, ap may_leave listed))
+list_same stays (leaves_names listed unasked stay rest) = absurd (cc (stays, ap may_leave listed))
 list_same stays (becomes {k = k} {l = l} {n = n} {m = m} {a = a} {b = b} {r = r} {s = s} part may bare rest) = no_list l m b s (new_unasked part) ∙ sym (no_list k n a r (old_unasked part))
 
 specifiers_node : (k : Kind) (n m : Note) (a b r s : Forest) → are_specifiers_first (node k m b s) ≡ are_specifiers_first (node k n a r)
@@ -177,6 +178,7 @@ specifiers_same stays (leaves may out strict rest) = absurd (cc (stays, may))
 specifiers_same stays (empties may rest) = refl
 specifiers_same stays (empties_idle {k = k} {n = n} {a = a} {r = r} idle loops may unnamed rest) = idle_kinds (λ z. false ≡ are_specifiers_first (node z n a r)) refl refl refl refl refl (λ label. refl) k idle
 specifiers_same stays (states listed unasked out rest) = absurd (cc (stays, ap may_leave listed))
+specifiers_same stays (leaves_names listed unasked stay rest) = absurd (cc (stays, ap may_leave listed))
 specifiers_same stays (becomes {k = k} {l = l} {n = n} {m = m} {a = a} {b = b} {r = r} {s = s} part may bare rest) = no_specifiers l m b s (new_unasked part) ∙ sym (no_specifiers k n a r (old_unasked part))
 
 binds_node : (k : Kind) (n m : Note) (a b r s : Forest) → binds_none s ≡ binds_none r → binds_none (node k m b s) ≡ binds_none (node k n a r)
@@ -191,6 +193,7 @@ binds_same stays (leaves may out strict rest) = absurd (cc (stays, may))
 binds_same stays (empties may rest) = binds_same stays rest
 binds_same stays (empties_idle {k = k} {n = n} {a = a} {r = r} idle loops may unnamed rest) = binds_same stays rest ∙ idle_kinds (λ z. binds_none r ≡ binds_none (node z n a r)) refl refl refl refl refl (λ label. refl) k idle
 binds_same stays (states listed unasked out rest) = absurd (cc (stays, ap may_leave listed))
+binds_same stays (leaves_names listed unasked stay rest) = absurd (cc (stays, ap may_leave listed))
 binds_same stays (becomes {k = k} {l = l} {n = n} {m = m} {a = a} {b = b} {r = r} {s = s} part may bare rest) =
     no_name l m b s (new_unasked part) ∙ binds_same stays rest ∙ sym (no_name k n a r (old_unasked part))
 
@@ -205,6 +208,10 @@ right_left w (function how pure) a b below h =
     let stays = stays_below w.row (function how pure) refl in
     binds_same stays (behind_left stays below) ∙ h
 right_left w k a b below h = h
+
+names_no_directive : (k : Kind) → leaves_names_of k ≡ true → is_directive_kind k ≡ false
+names_no_directive (directive written) h = absurd cc
+names_no_directive k h = refl
 
 pub stays_laid_out : {w : Around} {t u : Forest} → Sheds w t u → is_laid_out w.row t ≡ true → is_laid_out w.row u ≡ true
 stays_laid_out ends h = h
@@ -229,6 +236,10 @@ stays_laid_out (states {w = w} {how = how} {x = x} {k = k} {n = n} {m = m} {l = 
     (both (is_laid_out (row_below w.row expression_statement) value) (is_laid_out w.row s)
     (ap (λ row. is_laid_out row value) (is_other w.row expression_statement refl) ∙ laid_behind other (binding_name x) j nothing value (laid_below of_declarators variable_declarator l name nothing (laid_below of_item declarators m declarator nothing inner)))
     (stays_laid_out rest (laid_behind w.row (variable_declaration how) n all r h))))
+stays_laid_out (leaves_names {w = w} {k = k} {n = n} {m = m} {a = a} {b = b} {r = r} {s = s} listed unasked stay rest) h =
+    both (not (has_use_strict s)) (is_laid_out (row_below w.row a_var) b && is_laid_out w.row s)
+    (ap not (strict_same rest) ∙ ap (λ d. d || not (has_use_strict r)) (sym (names_no_directive k stay.holds)) ∙ laid_order w.row k n a r h)
+    (both (is_laid_out (row_below w.row a_var) b) (is_laid_out w.row s) (subst (λ z. is_laid_out (row_below z a_var) b ≡ true) (sym listed) stay.laid_out) (stays_laid_out rest (laid_behind w.row k n a r h)))
 stays_laid_out (becomes {w = w} {k = k} {l = l} {n = n} {m = m} {a = a} {b = b} {r = r} {s = s} part may bare rest) h =
     both (is_directive_kind l || not (has_use_strict s)) (stands_right w.row l b && (is_laid_out (row_below w.row l) b && is_laid_out w.row s))
     (ap (λ x. x || not (has_use_strict s)) (no_directive l (new_unasked part)) ∙ ap not (strict_same rest)

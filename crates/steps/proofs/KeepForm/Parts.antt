@@ -8,8 +8,8 @@ use Rattle.js_syntax.specs.declared.kind.MethodKind.TheVariants as method_kind
 use Rattle.js_syntax.specs.declared.kind.VariableKind.{VariableKind}
 use Rattle.js_syntax.specs.Node.{Forest, nothing, node, alone}
 use Rattle.form_rules.specs.Rules.{places_of, all_but_first, first_below, length_of, is_default, is_constructor, has_initializer, is_declarator_wrong, counts_right}
-use Rattle.steps.specs.KeepForm.Sheds.{Row, parts, items, of_item, of_declarators, of_head, of_import, of_specifiers, other, row_below, asked_below, may_leave, may_empty, keeps_one, Around, entered, Sheds, ends, keeps_absent, keeps, leaves, empties, empties_idle, states, becomes}
-use Rattle.steps.specs.KeepForm.Part.{is_asked_for, declares_one}
+use Rattle.steps.specs.KeepForm.Sheds.{Row, parts, items, of_item, of_declarators, of_head, of_import, of_specifiers, other, row_below, asked_below, may_leave, may_empty, keeps_one, Around, entered, Sheds, ends, keeps_absent, keeps, leaves, empties, empties_idle, leaves_names, states, becomes}
+use Rattle.steps.specs.KeepForm.Part.{a_var, is_asked_for, declares_one}
 use Rattle.steps.proofs.KeepForm.Asked.{new_unasked, no_default, no_constructor, not_asked}
 use Rattle.steps.proofs.KeepForm.Fewer.{Fewer, none, both, more}
 use Rattle.steps.proofs.KeepForm.Rows.{stays_below, behind_left, absent_same, length_same}
@@ -30,23 +30,25 @@ less_if false q f = f
 
 module _ (test : Kind → Forest → Bool) where
   places_fewer : (p q : ℕ) {w : Around} {t u : Forest} → ((k : Kind) (a b : Forest) → Sheds (entered w k a) a b → test k b ≡ test k a) → (may_empty w.row ≡ true → test empty_statement nothing ≡ false)
-      → (w.is_asked ≡ false → (k : Kind) (a : Forest) → is_asked_for k ≡ false → test k a ≡ false) → Sheds w t u → Fewer ℕ Any (places_of test p u) (places_of test q t)
-  places_fewer p q same emptied unasked ends = none
-  places_fewer p q same emptied unasked (keeps_absent rest) = places_fewer p q same emptied unasked rest
-  places_fewer p q same emptied unasked (keeps {k = k} {n = n} {m = m} {a = a} {b = b} one below rest) =
-      rw (same k a b below) (fewer_if (test k a) p q (places_fewer (p + node_count (node k m b nothing)) (q + node_count (node k n a nothing)) same emptied unasked rest))
-  places_fewer p q same emptied unasked (leaves {k = k} {n = n} {a = a} may out strict rest) = less_if (test k a) q (places_fewer p (q + node_count (node k n a nothing)) same emptied unasked rest)
-  places_fewer p q same emptied unasked (empties {n = n} {m = m} {a = a} may rest) =
-      rw (emptied may) (less_if (test expression_statement a) q (places_fewer (p + node_count (node empty_statement m nothing nothing)) (q + node_count (node expression_statement n a nothing)) same emptied unasked rest))
-  places_fewer p q same emptied unasked (empties_idle {k = k} {n = n} {m = m} {a = a} idle loops may unnamed rest) =
-      rw (emptied may) (less_if (test k a) q (places_fewer (p + node_count (node empty_statement m nothing nothing)) (q + node_count (node k n a nothing)) same emptied unasked rest))
+      → (w.is_asked ≡ false → (k : Kind) (a : Forest) → is_asked_for k ≡ false → test k a ≡ false) → (w.row ≡ items → (b : Forest) → test a_var b ≡ false) → Sheds w t u → Fewer ℕ Any (places_of test p u) (places_of test q t)
+  places_fewer p q same emptied unasked declared ends = none
+  places_fewer p q same emptied unasked declared (keeps_absent rest) = places_fewer p q same emptied unasked declared rest
+  places_fewer p q same emptied unasked declared (keeps {k = k} {n = n} {m = m} {a = a} {b = b} one below rest) =
+      rw (same k a b below) (fewer_if (test k a) p q (places_fewer (p + node_count (node k m b nothing)) (q + node_count (node k n a nothing)) same emptied unasked declared rest))
+  places_fewer p q same emptied unasked declared (leaves {k = k} {n = n} {a = a} may out strict rest) = less_if (test k a) q (places_fewer p (q + node_count (node k n a nothing)) same emptied unasked declared rest)
+  places_fewer p q same emptied unasked declared (empties {n = n} {m = m} {a = a} may rest) =
+      rw (emptied may) (less_if (test expression_statement a) q (places_fewer (p + node_count (node empty_statement m nothing nothing)) (q + node_count (node expression_statement n a nothing)) same emptied unasked declared rest))
+  places_fewer p q same emptied unasked declared (empties_idle {k = k} {n = n} {m = m} {a = a} idle loops may unnamed rest) =
+      rw (emptied may) (less_if (test k a) q (places_fewer (p + node_count (node empty_statement m nothing nothing)) (q + node_count (node k n a nothing)) same emptied unasked declared rest))
   places_fewer p q same emptied unasked (states {how = how} {x = x} {k = k} {n = n} {m = m} {l = l} {j = j} {i = i} {o = o} {b = b} listed calm out rest) =
       let value = alone k i b in
       let all = declares_one m l j x value in
       rw (unasked calm expression_statement value refl)
       (less_if (test (variable_declaration how) all) q (places_fewer (p + node_count (node expression_statement o value nothing)) (q + node_count (node (variable_declaration how) n all nothing)) same emptied unasked rest))
-  places_fewer p q same emptied unasked (becomes {w = w} {k = k} {l = l} {n = n} {m = m} {a = a} {b = b} part may bare rest) =
-      rw (unasked (not_asked w k may) l b (new_unasked part)) (less_if (test k a) q (places_fewer (p + node_count (node l m b nothing)) (q + node_count (node k n a nothing)) same emptied unasked rest))
+  places_fewer p q same emptied unasked declared (leaves_names {k = k} {n = n} {m = m} {a = a} {b = b} listed plain stay rest) =
+      rw (declared listed b) (less_if (test k a) q (places_fewer (p + node_count (node a_var m b nothing)) (q + node_count (node k n a nothing)) same emptied unasked declared rest))
+  places_fewer p q same emptied unasked declared (becomes {w = w} {k = k} {l = l} {n = n} {m = m} {a = a} {b = b} part may bare rest) =
+      rw (unasked (not_asked w k may) l b (new_unasked part)) (less_if (test k a) q (places_fewer (p + node_count (node l m b nothing)) (q + node_count (node k n a nothing)) same emptied unasked declared rest))
 
 pub none_of_none : {xs ys : List ℕ} → Fewer ℕ Any xs ys → ys ≡ [] → xs ≡ []
 none_of_none none h = refl
@@ -67,10 +69,10 @@ constructor_same (method_definition method_kind.Constructor is_static key) a b =
 constructor_same k a b = refl
 
 pub one_default : (p q : ℕ) {w : Around} {t u : Forest} → Sheds w t u → all_but_first (places_of is_default q t) ≡ [] → all_but_first (places_of is_default p u) ≡ []
-one_default p q {w = w} h = one_of_one (places_fewer is_default p q (default_same w) (λ e. refl) (λ d. no_default) h)
+one_default p q {w = w} h = one_of_one (places_fewer is_default p q (default_same w) (λ e. refl) (λ d. no_default) (λ e b. refl) h)
 
 pub one_constructor : (p q : ℕ) {w : Around} {t u : Forest} → Sheds w t u → all_but_first (places_of is_constructor q t) ≡ [] → all_but_first (places_of is_constructor p u) ≡ []
-one_constructor p q h = one_of_one (places_fewer is_constructor p q (λ k a b below. constructor_same k a b) (λ e. refl) (λ d. no_constructor) h)
+one_constructor p q h = one_of_one (places_fewer is_constructor p q (λ k a b below. constructor_same k a b) (λ e. refl) (λ d. no_constructor) (λ e b. refl) h)
 
 -- ---- declarators
 
@@ -154,7 +156,7 @@ pub none_wrong : (is_head : Bool) (how : VariableKind) (p q : ℕ) {w : Around} 
     → places_of (is_declarator_wrong is_head how) q t ≡ [] → places_of (is_declarator_wrong is_head how) p u ≡ []
 none_wrong is_head how p q {w = w} plain asked h =
     none_of_none (places_fewer (is_declarator_wrong is_head how) p q (λ k a b below. wrong_same is_head how k (plain_stays w.row k plain) below) (λ e. absurd (plain_empties_not w.row plain e))
-    (λ d. absurd (cc (asked, d))) h)
+    (λ d. absurd (cc (asked, d))) (λ e b. absurd (cc (plain, ap is_plain e))) h)
 
 length_fewer : {w : Around} {t u : Forest} → Sheds w t u → length_of u ≤ length_of t
 length_fewer ends = omega arith
@@ -164,6 +166,7 @@ length_fewer (leaves may out strict rest) = omega (arith, length_fewer rest)
 length_fewer (empties may rest) = omega (arith, length_fewer rest)
 length_fewer (empties_idle idle loops may unnamed rest) = omega (arith, length_fewer rest)
 length_fewer (states listed unasked out rest) = omega (arith, length_fewer rest)
+length_fewer (leaves_names listed unasked stay rest) = omega (arith, length_fewer rest)
 length_fewer (becomes part may bare rest) = omega (arith, length_fewer rest)
 
 counts_fewer : (is_head : Bool) (m n : ℕ) → m ≤ n → (n == 0 || not (m == 0)) ≡ true → counts_right is_head n ≡ true → counts_right is_head m ≡ true
@@ -185,6 +188,7 @@ counts_stay is_head {w = w} is asked (leaves may out strict rest) right = absurd
 counts_stay is_head {w = w} is asked (empties may rest) right = absurd (cc (may, (variables_stay w.row is).1))
 counts_stay is_head {w = w} is asked (empties_idle idle loops may unnamed rest) right = absurd (cc (may, (variables_stay w.row is).1))
 counts_stay is_head {w = w} is asked (states listed unasked out rest) right = absurd (cc (asked, unasked))
+counts_stay is_head is asked (leaves_names listed unasked stay rest) right = absurd (cc (asked, unasked))
 counts_stay is_head {w = w} is asked (becomes {k = k} part may bare rest) right = absurd (cc (asked, not_asked w k may))
 
 pub below_same : {w : Around} {t u : Forest} → w.row ≡ other → w.is_asked ≡ true → Sheds w t u → length_of (first_below u) ≡ length_of (first_below t)
@@ -195,6 +199,7 @@ below_same is asked (leaves may out strict rest) = absurd (cc (may, ap may_leave
 below_same is asked (empties may rest) = absurd (cc (may, ap may_empty is))
 below_same is asked (empties_idle idle loops may unnamed rest) = absurd (cc (may, ap may_empty is))
 below_same is asked (states listed unasked out rest) = absurd (cc (asked, unasked))
+below_same is asked (leaves_names listed unasked stay rest) = absurd (cc (asked, unasked))
 below_same is asked (becomes {w = w} {k = k} part may bare rest) = absurd (cc (asked, not_asked w k may))
 
 plain_below : (row : Row) (k : Kind) → of_variables row ≡ true → is_plain (row_below row k) ≡ true
@@ -230,4 +235,5 @@ declarators_left is_head how p q {w = w} is asked (leaves may out strict rest) r
 declarators_left is_head how p q {w = w} is asked (empties may rest) right = absurd (cc (may, (variables_stay w.row is).1))
 declarators_left is_head how p q {w = w} is asked (empties_idle idle loops may unnamed rest) right = absurd (cc (may, (variables_stay w.row is).1))
 declarators_left is_head how p q {w = w} is asked (states listed unasked out rest) right = absurd (cc (asked, unasked))
+declarators_left is_head how p q is asked (leaves_names listed unasked stay rest) right = absurd (cc (asked, unasked))
 declarators_left is_head how p q {w = w} is asked (becomes {k = k} part may bare rest) right = absurd (cc (asked, not_asked w k may))

@@ -5,7 +5,7 @@ use Rattle.js_syntax.specs.declared.node_kind.NodeKind.TheVariants.{Statements a
 use Rattle.js_syntax.specs.Node.{Forest, nothing, node, absent}
 use Rattle.form_rules.specs.Context.{is_absent, behind_first}
 use Rattle.form_rules.specs.Rules.{behind, length_of}
-use Rattle.steps.specs.KeepForm.Sheds.{Row, parts, items, of_item, of_declarators, of_head, of_import, of_specifiers, other, has_statements, row_below, may_leave, keeps_one, Around, entered, Sheds, ends, keeps_absent, keeps, leaves, empties, empties_idle, states, becomes}
+use Rattle.steps.specs.KeepForm.Sheds.{Row, parts, items, of_item, of_declarators, of_head, of_import, of_specifiers, other, has_statements, row_below, may_leave, keeps_one, Around, entered, Sheds, ends, keeps_absent, keeps, leaves, empties, empties_idle, leaves_names, states, becomes}
 
 -- ---- a row is left of itself
 
@@ -53,6 +53,7 @@ behind_left stays (leaves may out strict rest) = absurd (cc (stays, may))
 behind_left stays (empties may rest) = rest
 behind_left stays (empties_idle idle loops may unnamed rest) = rest
 behind_left stays (states listed unasked out rest) = absurd (cc (stays, ap may_leave listed))
+behind_left stays (leaves_names listed unasked stay rest) = absurd (cc (stays, ap may_leave listed))
 behind_left stays (becomes part may bare rest) = rest
 
 pub behind_is : (t : Forest) → behind_first t ≡ behind t
@@ -68,6 +69,7 @@ absent_same stays (leaves may out strict rest) = absurd (cc (stays, may))
 absent_same stays (empties may rest) = refl
 absent_same stays (empties_idle idle loops may unnamed rest) = refl
 absent_same stays (states listed unasked out rest) = absurd (cc (stays, ap may_leave listed))
+absent_same stays (leaves_names listed unasked stay rest) = absurd (cc (stays, ap may_leave listed))
 absent_same stays (becomes part may bare rest) = refl
 
 pub length_same : {w : Around} {t u : Forest} → may_leave w.row ≡ false → Sheds w t u → length_of u ≡ length_of t
@@ -78,6 +80,7 @@ length_same stays (leaves may out strict rest) = absurd (cc (stays, may))
 length_same stays (empties may rest) = ap (λ n. suc n) (length_same stays rest)
 length_same stays (empties_idle idle loops may unnamed rest) = ap (λ n. suc n) (length_same stays rest)
 length_same stays (states listed unasked out rest) = absurd (cc (stays, ap may_leave listed))
+length_same stays (leaves_names listed unasked stay rest) = absurd (cc (stays, ap may_leave listed))
 length_same stays (becomes part may bare rest) = ap (λ n. suc n) (length_same stays rest)
 
 -- ---- rows of other kinds

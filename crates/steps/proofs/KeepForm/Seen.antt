@@ -10,7 +10,8 @@ use Rattle.form_rules.specs.declared.role.Half.{Half}
 use Rattle.form_rules.specs.declared.role.Half.TheVariants.{Whole as whole}
 use Rattle.form_rules.specs.Context.{has_use_strict, is_strict_list, is_strict_function, private_key_of, privates_of, extends_another, is_absent, is_loop}
 use Rattle.form_rules.specs.Rules.{are_names, have_plain_parameters, Private, privates_named, half_of, private_of, privates_among, first_is_super, is_bare_name, is_name_first, is_last, is_rest, early_rests}
-use Rattle.steps.specs.KeepForm.Sheds.{row_below, deleted_below, labeled_below, may_leave, may_come_out, Around, entered, Sheds, ends, keeps_absent, keeps, leaves, empties, empties_idle, states, becomes}
+use Rattle.steps.specs.KeepForm.Part.{leaves_names_of}
+use Rattle.steps.specs.KeepForm.Sheds.{row_below, deleted_below, labeled_below, may_leave, may_come_out, Around, entered, Sheds, ends, keeps_absent, keeps, leaves, empties, empties_idle, leaves_names, states, becomes}
 use Rattle.steps.proofs.KeepForm.Asked.{idle_kinds, old_unasked, new_unasked, not_strict, no_strict_list, no_body, no_name, no_parameters, no_private_key, no_privates, no_private, no_loop, no_super, bare_alone, no_bound_name, no_rest}
 use Rattle.steps.proofs.KeepForm.Fewer.{Fewer, none, both, behind_all, beside, SamePrivate, left_out, leave_out}
 use Rattle.js_syntax.proofs.Truth.{not_true}
@@ -22,6 +23,10 @@ strict_node : (k : Kind) (n m : Note) (a b r s : Forest) → has_use_strict s �
 strict_node (directive written) n m a b r s h = ap (λ x. bytes_eq written (codes "use strict") || x) h
 strict_node k n m a b r s h = refl
 
+names_unstrict : (k : Kind) (n : Note) (a r : Forest) → leaves_names_of k ≡ true → has_use_strict (node k n a r) ≡ false
+names_unstrict (directive written) n a r h = absurd cc
+names_unstrict k n a r h = refl
+
 pub strict_same : {w : Around} {t u : Forest} → Sheds w t u → has_use_strict u ≡ has_use_strict t
 strict_same ends = refl
 strict_same (keeps_absent rest) = refl
@@ -30,6 +35,7 @@ strict_same (leaves may out strict rest) = strict_same rest ∙ strict
 strict_same (empties may rest) = refl
 strict_same (empties_idle {k = k} {n = n} {a = a} {r = r} idle loops may unnamed rest) = idle_kinds (λ z. false ≡ has_use_strict (node z n a r)) refl refl refl refl refl (λ label. refl) k idle
 strict_same (states listed unasked out rest) = refl
+strict_same (leaves_names {k = k} {n = n} {a = a} {r = r} listed unasked stay rest) = sym (names_unstrict k n a r stay.holds)
 strict_same (becomes {k = k} {l = l} {n = n} {m = m} {a = a} {b = b} {r = r} {s = s} part may bare rest) = not_strict l m b s (new_unasked part) ∙ sym (not_strict k n a r (old_unasked part))
 
 list_node : (w : Around) (k : Kind) (n m : Note) (a b r s : Forest) → Sheds (entered w k a) a b → is_strict_list (node k m b s) ≡ is_strict_list (node k n a r)
@@ -44,6 +50,7 @@ list_same stays (leaves may out strict rest) = absurd (cc (stays, may))
 list_same stays (empties may rest) = refl
 list_same stays (empties_idle {k = k} {n = n} {a = a} {r = r} idle loops may unnamed rest) = idle_kinds (λ z. false ≡ is_strict_list (node z n a r)) refl refl refl refl refl (λ label. refl) k idle
 list_same stays (states listed unasked out rest) = absurd (cc (stays, ap may_leave listed))
+list_same stays (leaves_names listed unasked stay rest) = absurd (cc (stays, ap may_leave listed))
 list_same stays (becomes {k = k} {l = l} {n = n} {m = m} {a = a} {b = b} {r = r} {s = s} part may bare rest) = no_strict_list l m b s (new_unasked part) ∙ sym (no_strict_list k n a r (old_unasked part))
 
 function_node : (w : Around) (k : Kind) (n m : Note) (a b r s : Forest) → Sheds (entered w k a) a b → is_strict_function s ≡ is_strict_function r → is_strict_function (node k m b s) ≡ is_strict_function (node k n a r)
@@ -58,6 +65,7 @@ function_same stays (leaves may out strict rest) = absurd (cc (stays, may))
 function_same stays (empties may rest) = function_same stays rest
 function_same stays (empties_idle {k = k} {n = n} {a = a} {r = r} idle loops may unnamed rest) = function_same stays rest ∙ idle_kinds (λ z. is_strict_function r ≡ is_strict_function (node z n a r)) refl refl refl refl refl (λ label. refl) k idle
 function_same stays (states listed unasked out rest) = absurd (cc (stays, ap may_leave listed))
+function_same stays (leaves_names listed unasked stay rest) = absurd (cc (stays, ap may_leave listed))
 function_same stays (becomes {k = k} {l = l} {n = n} {m = m} {a = a} {b = b} {r = r} {s = s} part may bare rest) =
     no_body l m b s (new_unasked part) ∙ function_same stays rest ∙ sym (no_body k n a r (old_unasked part))
 
@@ -75,6 +83,7 @@ names_same stays (leaves may out strict rest) = absurd (cc (stays, may))
 names_same stays (empties may rest) = refl
 names_same stays (empties_idle {k = k} {n = n} {a = a} {r = r} idle loops may unnamed rest) = idle_kinds (λ z. false ≡ are_names (node z n a r)) refl refl refl refl refl (λ label. refl) k idle
 names_same stays (states listed unasked out rest) = absurd (cc (stays, ap may_leave listed))
+names_same stays (leaves_names listed unasked stay rest) = absurd (cc (stays, ap may_leave listed))
 names_same stays (becomes {k = k} {l = l} {n = n} {m = m} {a = a} {b = b} {r = r} {s = s} part may bare rest) = no_name l m b s (new_unasked part) ∙ sym (no_name k n a r (old_unasked part))
 
 plain_node : (w : Around) (k : Kind) (n m : Note) (a b r s : Forest) → Sheds (entered w k a) a b → have_plain_parameters s ≡ have_plain_parameters r → have_plain_parameters (node k m b s) ≡ have_plain_parameters (node k n a r)
@@ -89,6 +98,7 @@ plain_same stays (leaves may out strict rest) = absurd (cc (stays, may))
 plain_same stays (empties may rest) = plain_same stays rest
 plain_same stays (empties_idle {k = k} {n = n} {a = a} {r = r} idle loops may unnamed rest) = plain_same stays rest ∙ idle_kinds (λ z. have_plain_parameters r ≡ have_plain_parameters (node z n a r)) refl refl refl refl refl (λ label. refl) k idle
 plain_same stays (states listed unasked out rest) = absurd (cc (stays, ap may_leave listed))
+plain_same stays (leaves_names listed unasked stay rest) = absurd (cc (stays, ap may_leave listed))
 plain_same stays (becomes {k = k} {l = l} {n = n} {m = m} {a = a} {b = b} {r = r} {s = s} part may bare rest) =
     no_parameters l m b s (new_unasked part) ∙ plain_same stays rest ∙ sym (no_parameters k n a r (old_unasked part))
 
@@ -106,6 +116,7 @@ key_same stays (leaves may out strict rest) = absurd (cc (stays, may))
 key_same stays (empties may rest) = refl
 key_same stays (empties_idle {k = k} {n = n} {a = a} {r = r} idle loops may unnamed rest) = idle_kinds (λ z. [] ≡ private_key_of (node z n a r)) refl refl refl refl refl (λ label. refl) k idle
 key_same stays (states listed unasked out rest) = absurd (cc (stays, ap may_leave listed))
+key_same stays (leaves_names listed unasked stay rest) = absurd (cc (stays, ap may_leave listed))
 key_same stays (becomes {k = k} {l = l} {n = n} {m = m} {a = a} {b = b} {r = r} {s = s} part may bare rest) = no_private_key l m b s (new_unasked part) ∙ sym (no_private_key k n a r (old_unasked part))
 
 privates_node : (w : Around) (k : Kind) (n m : Note) (a b r s : Forest) → Sheds (entered w k a) a b → (may_leave (row_below w.row k) ≡ false → privates_of b ≡ privates_of a) → privates_of s ≡ privates_of r
@@ -126,6 +137,7 @@ privates_same stays (leaves may out strict rest) = absurd (cc (stays, may))
 privates_same stays (empties may rest) = privates_same stays rest
 privates_same stays (empties_idle {k = k} {n = n} {a = a} {r = r} idle loops may unnamed rest) = privates_same stays rest ∙ idle_kinds (λ z. privates_of r ≡ privates_of (node z n a r)) refl refl refl refl refl (λ label. refl) k idle
 privates_same stays (states listed unasked out rest) = absurd (cc (stays, ap may_leave listed))
+privates_same stays (leaves_names listed unasked stay rest) = absurd (cc (stays, ap may_leave listed))
 privates_same stays (becomes {k = k} {l = l} {n = n} {m = m} {a = a} {b = b} {r = r} {s = s} part may bare rest) =
     no_privates l m b s (new_unasked part) ∙ privates_same stays rest ∙ sym (no_privates k n a r (old_unasked part))
 
@@ -151,6 +163,7 @@ privates_fewer p q stays (leaves may out strict rest) = absurd (cc (stays, may))
 privates_fewer p q stays (empties may rest) = privates_fewer _ _ stays rest
 privates_fewer p q stays (empties_idle {k = k} {a = a} idle loops may unnamed rest) = behind_all (private_of k q a) (privates_fewer _ _ stays rest)
 privates_fewer p q stays (states listed unasked out rest) = absurd (cc (stays, ap may_leave listed))
+privates_fewer p q stays (leaves_names listed unasked stay rest) = absurd (cc (stays, ap may_leave listed))
 privates_fewer p q stays (becomes {k = k} {l = l} {n = n} {m = m} {a = a} {b = b} {r = r} {s = s} part may bare rest) =
     rw (no_private l p b (new_unasked part), no_private k q a (old_unasked part)) (privates_fewer _ _ stays rest)
 
@@ -169,6 +182,7 @@ loop_same stays labeled (leaves may out strict rest) = absurd (cc (stays, may))
 loop_same stays labeled (empties may rest) = refl
 loop_same stays labeled (empties_idle idle loops may unnamed rest) = sym (loops labeled)
 loop_same stays labeled (states listed unasked out rest) = absurd (cc (stays, ap may_leave listed))
+loop_same stays labeled (leaves_names listed unasked stay rest) = absurd (cc (stays, ap may_leave listed))
 loop_same stays labeled (becomes {k = k} {l = l} {n = n} {m = m} {a = a} {b = b} {r = r} {s = s} part may bare rest) = no_loop l m b s (new_unasked part) ∙ sym (no_loop k n a r (old_unasked part))
 
 super_node : (k : Kind) (n m : Note) (a b r s : Forest) → first_is_super (node k m b s) ≡ first_is_super (node k n a r)
@@ -183,6 +197,7 @@ super_same stays (leaves may out strict rest) = absurd (cc (stays, may))
 super_same stays (empties may rest) = refl
 super_same stays (empties_idle {k = k} {n = n} {a = a} {r = r} idle loops may unnamed rest) = idle_kinds (λ z. false ≡ first_is_super (node z n a r)) refl refl refl refl refl (λ label. refl) k idle
 super_same stays (states listed unasked out rest) = absurd (cc (stays, ap may_leave listed))
+super_same stays (leaves_names listed unasked stay rest) = absurd (cc (stays, ap may_leave listed))
 super_same stays (becomes {k = k} {l = l} {n = n} {m = m} {a = a} {b = b} {r = r} {s = s} part may bare rest) = no_super l m b s (new_unasked part) ∙ sym (no_super k n a r (old_unasked part))
 
 bare_node : (w : Around) (k : Kind) (n m : Note) (a b r s : Forest) → w.is_deleted ≡ true → (may_leave (row_below w.row k) ≡ false → deleted_below w.is_deleted k ≡ true → is_bare_name b ≡ true → is_bare_name a ≡ true)
@@ -204,6 +219,7 @@ bare_kept stays taken (leaves may out strict rest) h = absurd (cc (stays, may))
 bare_kept stays taken (empties may rest) h = h
 bare_kept stays taken (empties_idle idle loops may unnamed rest) h = absurd (true≢false (sym h))
 bare_kept stays taken (states listed unasked out rest) h = absurd (cc (stays, ap may_leave listed))
+bare_kept stays taken (leaves_names listed unasked stay rest) h = absurd (cc (stays, ap may_leave listed))
 bare_kept stays taken (becomes {w = w} {l = l} {m = m} {b = b} {s = s} part may bare rest) h = absurd (true≢false (sym h ∙ bare_alone l m b s ∙ not_out w.is_deleted (alone l m b) taken bare))
 
 name_node : (k : Kind) (n m : Note) (a b r s : Forest) → is_name_first (node k m b s) ≡ is_name_first (node k n a r)
@@ -218,6 +234,7 @@ name_same stays (leaves may out strict rest) = absurd (cc (stays, may))
 name_same stays (empties may rest) = refl
 name_same stays (empties_idle {k = k} {n = n} {a = a} {r = r} idle loops may unnamed rest) = idle_kinds (λ z. false ≡ is_name_first (node z n a r)) refl refl refl refl refl (λ label. refl) k idle
 name_same stays (states listed unasked out rest) = absurd (cc (stays, ap may_leave listed))
+name_same stays (leaves_names listed unasked stay rest) = absurd (cc (stays, ap may_leave listed))
 name_same stays (becomes {k = k} {l = l} {n = n} {m = m} {a = a} {b = b} {r = r} {s = s} part may bare rest) = no_bound_name l m b s (new_unasked part) ∙ sym (no_bound_name k n a r (old_unasked part))
 
 -- ---- rests stand last
@@ -230,6 +247,7 @@ last_same stays (leaves may out strict rest) = absurd (cc (stays, may))
 last_same stays (empties may rest) = refl
 last_same stays (empties_idle idle loops may unnamed rest) = refl
 last_same stays (states listed unasked out rest) = absurd (cc (stays, ap may_leave listed))
+last_same stays (leaves_names listed unasked stay rest) = absurd (cc (stays, ap may_leave listed))
 last_same stays (becomes part may bare rest) = refl
 
 pub rests_last : (p q : ℕ) {w : Around} {t u : Forest} → may_leave w.row ≡ false → Sheds w t u → early_rests q t ≡ [] → early_rests p u ≡ []
@@ -243,6 +261,7 @@ rests_last p q stays (empties may rest) h = rests_last _ _ stays rest h
 rests_last p q stays (empties_idle {k = k} {n = n} {m = m} {a = a} {r = r} idle loops may unnamed rest) h =
     rests_last (p + node_count (node empty_statement m nothing nothing)) (q + node_count (node k n a nothing)) stays rest (left_out (is_rest k && not (is_last r)) q (early_rests (q + node_count (node k n a nothing)) r) h).1
 rests_last p q stays (states listed unasked out rest) h = absurd (cc (stays, ap may_leave listed))
+rests_last p q stays (leaves_names listed unasked stay rest) h = absurd (cc (stays, ap may_leave listed))
 rests_last p q stays (becomes {k = k} {l = l} {n = n} {m = m} {a = a} {b = b} {r = r} {s = s} part may bare rest) h =
     rw (no_rest l (new_unasked part)) (rests_last (p + node_count (node l m b nothing)) (q + node_count (node k n a nothing)) stays rest
     (left_out (is_rest k && not (is_last r)) q (early_rests (q + node_count (node k n a nothing)) r) h).1)

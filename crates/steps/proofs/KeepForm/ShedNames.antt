@@ -6,14 +6,15 @@ use Rattle.js_tree.specs.Count.{one_each, node_count}
 use Rattle.js_syntax.specs.declared.node_kind.NodeKind.{NodeKind as Kind}
 use Rattle.js_syntax.specs.declared.node_kind.NodeKind.TheVariants.{Program as program, BindingName as binding_name, EmptyStatement as empty_statement, ExpressionStatement as expression_statement, IfStatement as if_statement, VariableDeclaration as variable_declaration}
 use Rattle.js_syntax.specs.Node.{Note, Forest, nothing, node, absent, alone, joined}
+use Rattle.form_rules.specs.declared.sought.Sort.{Sort}
 use Rattle.form_rules.specs.declared.sought.Sought.{Sought}
 use Rattle.form_rules.specs.declared.sought.Sought.TheVariants.{Nothing as none_sought, Names as names, Bound as bound, Scope as scope, Variables as variables, FunctionScope as function_scope, CatchScope as catch_scope}
 use Rattle.js_syntax.specs.declared.scalar.SourceType.{SourceType}
 use Rattle.form_rules.specs.Scope.{Declared, declared, declared_here, sought_below}
 use Rattle.form_rules.specs.Rules.{Exported, is_exported, is_declared}
-use Rattle.steps.specs.KeepForm.Sheds.{Around, exports_none, sought_inside, exported_below, Sheds, ends, keeps_absent, keeps, leaves, empties, empties_idle, states, becomes}
-use Rattle.steps.specs.VarNames.Texts.{is_of_catch}
-use Rattle.steps.specs.KeepForm.Part.{declares_one, StandsFor, RebuildsTo, Replaces, by_part, by_parts, by_test, without_alternate}
+use Rattle.steps.specs.KeepForm.Sheds.{Around, exports_none, sought_inside, exported_below, Sheds, ends, keeps_absent, keeps, leaves, empties, empties_idle, leaves_names, states, becomes}
+use Rattle.steps.specs.VarNames.Texts.{Named, named, is_of_catch}
+use Rattle.steps.specs.KeepForm.Part.{a_var, declares_one, StandsFor, RebuildsTo, Replaces, by_part, by_parts, by_test, without_alternate}
 use Rattle.steps.proofs.KeepForm.Asked.{old_unasked, no_name_here, sought_alike, no_catch_below, no_catch_inside, not_asked}
 use Rattle.steps.proofs.KeepForm.Fewer.{Fewer, none, both, more, fewest, behind_all, beside, SameName}
 use Rattle.js_syntax.proofs.Truth.{second_of_either}
@@ -110,6 +111,26 @@ replaced_declared s p q {k = k} {m = m} calm (by_test {l = l} {i = i} {b = b} {a
 replaced_declared s p q calm (without_alternate {t = t} {l = l} {i = i} {j = j} {o = o} {d = d} {b = b}) =
     rw (no_name_here s p if_statement refl) (alternate_declared (sought_below s if_statement) t l i j o d b (p + one_each if_statement) q)
 
+-- the same names, declared in the same way
+first_name : List Named → List ℕ
+first_name [] = []
+first_name (d ∷ ds) = d.name
+
+first_sort : Sort → List Named → Sort
+first_sort o [] = o
+first_sort o (d ∷ ds) = d.sort
+
+later_named : List Named → List Named
+later_named [] = []
+later_named (d ∷ ds) = ds
+
+fewer_named : (xs ys : List Declared) → named xs ≡ named ys → Fewer Declared SameName xs ys
+unfolding first_name first_sort later_named
+fewer_named [] [] e = none
+fewer_named [] (y ∷ ys) e = absurd cc
+fewer_named (x ∷ xs) [] e = absurd cc
+fewer_named (x ∷ xs) (y ∷ ys) e = both (ap first_name e, ap (first_sort x.sort) e) (fewer_named xs ys (ap later_named e))
+
 pub fewer_declared : {w : Around} {t u : Forest} (s : Sought) (p q : ℕ) → (is_of_catch s ≡ true → w.is_asked ≡ true) → Sheds w t u → Fewer Declared SameName (declared s p u) (declared s q t)
 fewer_declared s p q catch ends = none
 fewer_declared s p q catch (keeps_absent h) = fewer_declared s p q catch h
@@ -132,6 +153,14 @@ fewer_declared s p q catch (states {how = how} {x = x} {k = k} {n = n} {m = m} {
     rw (nothing_of_expression s p o value r)
     (behind_all (declared_here s q (variable_declaration how) ++ declared (sought_below s (variable_declaration how)) (q + one_each (variable_declaration how)) all)
     (fewer_declared s (p + node_count (alone expression_statement o value)) (q + node_count (alone (variable_declaration how) n all)) catch rest))
+fewer_declared s p q catch (leaves_names {w = w} {k = k} {n = n} {m = m} {a = a} {b = b} listed unasked stay rest) =
+    beside
+    (fewer_named (declared_here s p a_var ++ declared (sought_below s a_var) (p + one_each a_var) b) (declared_here s q k ++ declared (sought_below s k) (q + one_each k) a) (sym (stay.declares s q p (no_catch (is_of_catch s) refl))))
+    (fewer_declared s (p + node_count (alone a_var m b)) (q + node_count (alone k n a)) catch rest)
+  where
+    no_catch : (x : Bool) → is_of_catch s ≡ x → is_of_catch s ≡ false
+    no_catch true is = absurd (cc (catch is, unasked))
+    no_catch false is = is
 fewer_declared s p q catch (becomes {w = w} {k = k} {l = l} {n = n} {m = m} {a = a} {b = b} part may bare rest) =
     beside (behind_all (declared_here s q k) (replaced_declared s p (q + one_each k) (no_catch (is_of_catch s) refl) part))
     (fewer_declared s (p + node_count (alone l m b)) (q + node_count (alone k n a)) catch rest)
@@ -293,6 +322,14 @@ still_declared x p q calm (states {w = w} {how = how} {x = y} {k = k} {n = n} {m
     let all = declares_one m l j y value in
     ap (is_declared x) (nothing_of_expression w.sought p o value s)
     ∙ still_declared x (p + node_count (alone expression_statement o value)) (q + node_count (alone (variable_declaration how) n all)) calm rest e (behind_it x q w (variable_declaration how) n all r out e h)
+still_declared x p q calm (leaves_names {w = w} {k = k} {n = n} {m = m} {a = a} {b = b} {r = r} {s = s} listed unasked stay rest) e h =
+    let old = declared_here w.sought q k ++ declared (sought_below w.sought k) (q + one_each k) a in
+    let new = declared_here w.sought p a_var ++ declared (sought_below w.sought a_var) (p + one_each a_var) b in
+    let old_rest = declared w.sought (q + node_count (alone k n a)) r in
+    let new_rest = declared w.sought (p + node_count (alone a_var m b)) s in
+    declared_append x new new_rest
+    ∙ one_of_both (is_declared x old) (is_declared x old_rest) (is_declared x new) (is_declared x new_rest) (declared_in_more x (fewer_named old new (stay.declares w.sought q p calm)))
+    (still_declared x (p + node_count (alone a_var m b)) (q + node_count (alone k n a)) calm rest e) (sym (declared_append x old old_rest) ∙ h)
 still_declared x p q calm (becomes {w = w} {k = k} {l = l} {n = n} {m = m} {a = a} {b = b} {r = r} {s = s} part may bare rest) e h =
     declared_node x w.sought p l m b s
     ∙ second_of_either (is_declared x (declared_here w.sought p l)) (is_declared x (declared (sought_below w.sought l) (p + one_each l) b) || is_declared x (declared w.sought (p + node_count (alone l m b)) s))

@@ -16,6 +16,8 @@ use Rattle.steps.specs.Allowed.MergedImports.{MergedImports}
 use Rattle.steps.specs.Allowed.PassedExports.{PassedExports}
 use Rattle.steps.specs.Owed.Part.{DeclaresNothing}
 use Rattle.steps.proofs.Marked.Called.{called_below, called_at, NamesStay, no_list_called, calls_stay}
+use Rattle.steps.specs.KeepForm.Part.{a_var}
+use Rattle.steps.proofs.VarNames.Left.{NamesLeft}
 use Rattle.steps.proofs.Marked.Local as local
 use Rattle.steps.proofs.Marked.Local.{IsRebuilt, Local, IsLocal, is_local}
 
@@ -29,6 +31,7 @@ pub data Cuts : (listed : Bool) → (t u : Forest) → Type 0 where
   alternate : (t l : Kind) (i j o : Note) (d b : Forest) → Cuts false (node t i d (node l j b (node empty_statement o nothing nothing))) (node t i d (node l j b (absent nothing)))
   parts : (listed : Bool) (k l : Kind) (i j : Note) (b v w rest : Forest) → gives_way k ≡ true → is_asked_for l ≡ false → Cuts listed (node k i (joined v (node l j b w)) rest) (node l j b rest)
   rebuilds : (listed : Bool) (k l : Kind) (n m : Note) (a b rest : Forest) → IsRebuilt k n a l m b → Cuts listed (node k n a rest) (node l m b rest)
+  names_left : (listed : Bool) (k : Kind) (n m : Note) (a b rest : Forest) → NamesLeft k n a m b → Cuts listed (node k n a rest) (node a_var m b rest)
   inside : (listed : Bool) (k : Kind) (n : Note) (below now rest : Forest) → (is_some (eval_of_call k now) ≡ true → is_some (eval_of_call k below) ≡ true) → Cuts (is_list k) below now → Cuts listed (node k n below rest) (node k n now rest)
   behind : (listed : Bool) (k : Kind) (n : Note) (below rest now : Forest) → Cuts listed rest now → Cuts listed (node k n below rest) (node k n below now)
   behind_none : (listed : Bool) (rest now : Forest) → Cuts listed rest now → Cuts listed (absent rest) (absent now)
@@ -43,6 +46,7 @@ cut_here a t u (local.alternate y l n i j o d b rest) listed e =
     inside listed if_statement n (node y i d (node l j b (node empty_statement o nothing nothing))) (node y i d (node l j b (absent nothing))) rest (λ h. h) (alternate y l i j o d b)
 cut_here a t u (local.parts k l i j b v w rest gives unasked uncalled) listed e = parts listed k l i j b v w rest gives unasked
 cut_here a t u (local.rebuilds k l n m b c rest made uncalled) listed e = rebuilds listed k l n m b c rest made
+cut_here a t u (local.names_left k n m b c rest made) listed e = names_left listed k n m b c rest made
 
 -- where the first node is called it makes no name `eval` of another
 names_stay : (a : Around) (t u : Forest) → Local a t u → called_at false a ≡ true → NamesStay t u
@@ -54,6 +58,7 @@ names_stay a t u (local.states how x k n m l j i o b rest none) c e = absurd (tr
 names_stay a t u (local.alternate y l n i j o d b rest) c e = absurd (true≢false (sym e))
 names_stay a t u (local.parts k l i j b v w rest gives unasked uncalled) c e = absurd (true≢false (sym e ∙ uncalled c))
 names_stay a t u (local.rebuilds k l n m b d rest made uncalled) c e = absurd (true≢false (sym e ∙ uncalled c))
+names_stay a t u (local.names_left k n m b d rest made) c e = absurd (true≢false (sym e))
 
 cut_at : (listed called : Bool) (a : Around) (t u : Forest) → (called_at called a ≡ true → NamesStay t u) → Cuts (in_list listed a) t u → Cuts listed (plug a t) (plug a u)
 cut_at listed called here t u f c = c

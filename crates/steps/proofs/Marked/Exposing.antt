@@ -1,4 +1,5 @@
 -- An edit exposes no name: strict code stays strict, and no call of `eval` comes.
+use Rattle.std.specs.Prelude.{List, [], ◌∷◌, None, map}
 use Rattle.std.proofs.Common.{◌≡◌, ◌∙◌, ℕ, Bool, true, false, not, ◌&&◌, ◌||◌, ◌==◌, true≢false, if◌then◌else◌, is_some, bytes_eq, codes, refl, sym, subst, ap}
 use Rattle.std.proofs.lemmas.Bool.{and_parts, and_from}
 use Rattle.js_syntax.specs.declared.node_kind.NodeKind.{NodeKind as Kind}
@@ -9,7 +10,7 @@ use Rattle.js_syntax.specs.declared.kind.ClassKind.{ClassKind}
 use Rattle.js_syntax.specs.declared.kind.ClassKind.TheVariants as class_kind
 use Rattle.js_syntax.specs.declared.kind.VariableKind.{VariableKind}
 use Rattle.js_syntax.specs.declared.kind.VariableKind.TheVariants as variable
-use Rattle.js_syntax.specs.Node.{Forest, Note, nothing, node, absent, joined, below_of}
+use Rattle.js_syntax.specs.Node.{Forest, Note, Tree, nothing, node, absent, row, joined, below_of}
 use Rattle.js_tree.specs.Names.{eval_of_call}
 use Rattle.form_rules.specs.Context.{has_use_strict, is_module, is_strict_list, is_strict_function, behind_first}
 use Rattle.scope_rules.specs.Context.{is_there, has_second}
@@ -18,9 +19,13 @@ use Rattle.scope_laws.specs.Lists.{is_list}
 use Rattle.steps.specs.KeepForm.Part.{gives_way, is_asked_for}
 use Rattle.steps.specs.Owed.Kept.{is_program}
 use Rattle.steps.specs.Allowed.Exposure.{Exposure, in_code, in_block, declaring, shares, is_script_source, at_function_name, at_class_name, exposed_inside, beside_program}
-use Rattle.js_syntax.proofs.Truth.{first_of_either, second_of_either}
+use Rattle.js_syntax.proofs.Truth.{first_of_either, second_of_either, first_of_both, second_of_both}
 use Rattle.steps.proofs.KeepForm.Asked.{idle_kinds, tested_kinds}
-use Rattle.steps.proofs.Marked.Cuts.{Cuts, leaves, empties, empties_idle, tests, states, alternate, parts, rebuilds, inside, behind, behind_none}
+use Rattle.kept_names.specs.Kept.{declarator_of}
+use Rattle.steps.specs.KeepForm.Part.{leaves_names_of}
+use Rattle.steps.proofs.VarNames.Again.{is_name_alone, is_bare_name, are_names}
+use Rattle.steps.proofs.VarNames.Left.{NamesLeft}
+use Rattle.steps.proofs.Marked.Cuts.{Cuts, leaves, empties, empties_idle, tests, states, alternate, parts, rebuilds, names_left, inside, behind, behind_none}
 use Rattle.steps.proofs.Marked.Rebuilding.{one_evals}
 
 -- ---- truth values
@@ -88,6 +93,38 @@ evals_part nothing l j b w e = first_of_either (is_some (eval_of_call l b) || ha
 evals_part (absent v) l j b w e = evals_part v l j b w e
 evals_part (node k n c v) l j b w e = second_of_either (is_some (eval_of_call k c) || has_eval c) (has_eval (joined v (node l j b w))) (evals_part v l j b w e)
 
+-- names call nothing
+one_calls_none : (k : Kind) (n m : Note) (b rest : Forest) → is_name_alone k b ≡ true → has_eval (node kind.VariableDeclarator n (node k m b (absent nothing)) rest) ≡ has_eval rest
+one_calls_none (kind.BindingName x) n m nothing rest h = refl
+one_calls_none (kind.BindingName x) n m (absent r) rest h = absurd cc
+one_calls_none (kind.BindingName x) n m (node j i c r) rest h = absurd cc
+one_calls_none k n m b rest h = absurd cc
+
+declarators_call_none : (ts : List Tree) → are_names ts ≡ true → has_eval (row (map declarator_of ts)) ≡ false
+declarators_call_none [] h = refl
+declarators_call_none (t ∷ ts) h =
+    one_calls_none t.kind (record { span = t.note.span; id = None }) t.note t.below (row (map declarator_of ts)) (first_of_both (is_bare_name t) (are_names ts) h) ∙ declarators_call_none ts (second_of_both (is_bare_name t) (are_names ts) h)
+
+names_evaluate_none : {k : Kind} {n m : Note} {a b : Forest} → NamesLeft k n a m b → has_eval b ≡ false
+names_evaluate_none made = ap has_eval made.is ∙ ap (λ c. c || false) (declarators_call_none made.names made.bare)
+
+-- a statement of which names are left is no directive, no list and no body
+holds_no_directive : (k : Kind) (n : Note) (a rest : Forest) → leaves_names_of k ≡ true → has_use_strict (node k n a rest) ≡ false
+holds_no_directive (kind.Directive written) n a rest h = absurd cc
+holds_no_directive k n a rest h = refl
+
+holds_no_list : (k : Kind) (n : Note) (a rest : Forest) → leaves_names_of k ≡ true → is_strict_list (node k n a rest) ≡ false
+holds_no_list kind.Statements n a rest h = absurd cc
+holds_no_list k n a rest h = refl
+
+holds_no_body : (k : Kind) (n : Note) (a rest : Forest) → leaves_names_of k ≡ true → is_strict_function (node k n a rest) ≡ is_strict_function rest
+holds_no_body kind.FunctionBody n a rest h = absurd cc
+holds_no_body k n a rest h = refl
+
+pub holds_no_program : (k : Kind) (n : Note) (a rest : Forest) → leaves_names_of k ≡ true → is_program (node k n a rest) ≡ false
+holds_no_program (kind.Program source) n a rest h = absurd cc
+holds_no_program k n a rest h = refl
+
 evals_stay : (listed : Bool) (t u : Forest) → Cuts listed t u → Only (has_eval u) (has_eval t)
 evals_stay listed t u (leaves k n below rest plain) e = second_of_either (is_some (eval_of_call k below) || has_eval below) (has_eval rest) e
 evals_stay listed t u (empties r n m below rest) e = second_of_either (has_eval below) (has_eval rest) e
@@ -107,6 +144,8 @@ evals_stay listed t u (parts r k l i j b v w rest gives unasked) e =
     (λ h. second_of_either (is_some (eval_of_call k whole)) (has_eval whole) (evals_part v l j b w h)) kept e
 evals_stay listed t u (rebuilds r k l n m a b rest made) e =
     only_or (is_some (eval_of_call l b) || has_eval b) (has_eval rest) (is_some (eval_of_call k a) || has_eval a) (has_eval rest) (one_evals k l n m a b made.rebuilt) kept e
+evals_stay listed t u (names_left r k n m a b rest made) e =
+    second_of_either (is_some (eval_of_call k a) || has_eval a) (has_eval rest) (ap (λ c. c || has_eval rest) (sym (names_evaluate_none made)) ∙ e)
 evals_stay listed t u (inside r k n below now rest called h) e =
     only_or (is_some (eval_of_call k now) || has_eval now) (has_eval rest) (is_some (eval_of_call k below) || has_eval below) (has_eval rest)
     (only_or (is_some (eval_of_call k now)) (has_eval now) (is_some (eval_of_call k below)) (has_eval below) called (evals_stay (is_list k) below now h)) kept e
@@ -123,6 +162,7 @@ evals_behind listed t u (states r how x k n m l j i o b rest none) q e = e
 evals_behind listed t u (alternate y l i j o d b) m e = e
 evals_behind listed t u (parts r k x i j b v w rest gives unasked) l e = e
 evals_behind listed t u (rebuilds r k x n m a b rest made) l e = e
+evals_behind listed t u (names_left r k n m a b rest made) l e = e
 evals_behind listed t u (inside r k n below now rest called h) l e = e
 evals_behind listed t u (behind r k n below rest now h) l e = evals_stay r rest now h e
 evals_behind listed t u (behind_none r rest now h) l e = evals_stay r rest now h e
@@ -173,6 +213,7 @@ use_strict_stays listed t u (states r how x k n m l j i o b rest none) e = never
 use_strict_stays listed t u (alternate y l i j o d b) e = first_strict y l i j o d b ∙ e
 use_strict_stays listed t u (parts r k l i j b v w rest gives unasked) e = never (sym (no_directive k i (joined v (node l j b w)) rest gives) ∙ e)
 use_strict_stays listed t u (rebuilds r k l n m a b rest made) e = never (sym (part_no_directive k n a rest made.old_unasked) ∙ e)
+use_strict_stays listed t u (names_left r k n m a b rest made) e = never (sym (holds_no_directive k n a rest made.holds) ∙ e)
 use_strict_stays listed t u (inside r (kind.Directive written) n below now rest called h) e = e
 use_strict_stays listed t u (inside r k n below now rest called h) e = never e
 use_strict_stays listed t u (behind r (kind.Directive written) n below rest now h) e =
@@ -189,6 +230,7 @@ list_stays listed t u (states r how x k n m l j i o b rest none) q e = never e
 list_stays listed t u (alternate y l i j o d b) m e = first_list y l i j o d b ∙ e
 list_stays listed t u (parts r k x i j b v w rest gives unasked) l e = never (sym (no_list k i (joined v (node x j b w)) rest gives) ∙ e)
 list_stays listed t u (rebuilds r k x n m a b rest made) l e = never (sym (part_no_list k n a rest made.old_unasked) ∙ e)
+list_stays listed t u (names_left r k n m a b rest made) l e = never (sym (holds_no_list k n a rest made.holds) ∙ e)
 list_stays listed t u (inside r kind.Statements n below now rest called h) l e = use_strict_stays true below now h e
 list_stays listed t u (inside r k n below now rest called h) l e = never e
 list_stays listed t u (behind r kind.Statements n below rest now h) l e = e
@@ -204,6 +246,7 @@ function_stays listed t u (states r how x k n m l j i o b rest none) q e = e
 function_stays listed t u (alternate y l i j o d b) m e = first_function y l i j o d b ∙ e
 function_stays listed t u (parts r k x i j b v w rest gives unasked) l e = part_no_body x j b rest unasked ∙ sym (whole_no_body k i (joined v (node x j b w)) rest gives) ∙ e
 function_stays listed t u (rebuilds r k x n m a b rest made) l e = part_no_body x m b rest made.unasked ∙ sym (part_no_body k n a rest made.old_unasked) ∙ e
+function_stays listed t u (names_left r k n m a b rest made) l e = sym (holds_no_body k n a rest made.holds) ∙ e
 function_stays listed t u (inside r kind.FunctionBody n below now rest called h) l e = list_stays false below now h refl e
 function_stays listed t u (inside r k n below now rest called h) l e = e
 function_stays listed t u (behind r kind.FunctionBody n below rest now h) l e = e
@@ -219,6 +262,7 @@ there_same listed t u (states r how x k n m l j i o b rest none) q = refl
 there_same listed t u (alternate y l i j o d b) m = refl
 there_same listed t u (parts r k x i j b v w rest gives unasked) l = refl
 there_same listed t u (rebuilds r k x n m a b rest made) l = refl
+there_same listed t u (names_left r k n m a b rest made) l = refl
 there_same listed t u (inside r k n below now rest called h) l = refl
 there_same listed t u (behind r k n below rest now h) l = refl
 there_same listed t u (behind_none r rest now h) l = refl
@@ -232,6 +276,7 @@ second_same listed t u (states r how x k n m l j i o b rest none) q = refl
 second_same listed t u (alternate y l i j o d b) m = refl
 second_same listed t u (parts r k x i j b v w rest gives unasked) l = refl
 second_same listed t u (rebuilds r k x n m a b rest made) l = refl
+second_same listed t u (names_left r k n m a b rest made) l = refl
 second_same listed t u (inside r k n below now rest called h) l = refl
 second_same listed t u (behind r k n below rest now h) l = there_same r rest now h l
 second_same listed t u (behind_none r rest now h) l = there_same r rest now h l
@@ -328,6 +373,7 @@ below_stays listed t u (states r how x k n m l j i o b rest none) q is e = never
 below_stays listed t u (alternate y l i j o d b) m is e = e
 below_stays listed t u (parts r k x i j b v w rest gives unasked) l is e = evals_part v x j b w (second_of_either (is_some (eval_of_call x b)) (has_eval b) e)
 below_stays listed t u (rebuilds r k x n m a b rest made) l is e = never (sym (part_no_program k n a rest made.old_unasked) ∙ is)
+below_stays listed t u (names_left r k n m a b rest made) l is e = never (sym (holds_no_program k n a rest made.holds) ∙ is)
 below_stays listed t u (inside r k n below now rest called h) l is e = evals_stay (is_list k) below now h e
 below_stays listed t u (behind r k n below rest now h) l is e = e
 below_stays listed t u (behind_none r rest now h) l is e = never e

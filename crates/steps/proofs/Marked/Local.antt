@@ -48,6 +48,9 @@ use Rattle.steps.proofs.Owed.FitsBecoming.{taken_as}
 use Rattle.steps.proofs.Owed.Owed.{leaving}
 use Rattle.steps.proofs.Owed.Places.{place_of, rest_of, placed_is, without_is, listed_is}
 use Rattle.steps.proofs.Owed.TableKept as tables
+use Rattle.steps.specs.KeepForm.Part.{a_var}
+use Rattle.steps.proofs.VarNames.Left as kept
+use Rattle.steps.proofs.VarNames.Left.{NamesLeft}
 use Rattle.steps.proofs.Marked.Called.{called_at, used_as_callee}
 use Rattle.steps.proofs.Marked.Picked.{Picks, zeroed, unused_list_picks, indirect_choice_picks, one_sided_choice_picks, idle_parts_picks, two_sides_picks, unused_object_picks, known_operation_picks}
 
@@ -75,6 +78,8 @@ pub data Local (place : Around) : (t u : Forest) → Type 0 where
   parts : (k l : Kind) (i j : Note) (b v w rest : Forest) → gives_way k ≡ true → is_asked_for l ≡ false → (called_at false place ≡ true → is_some (eval_name (node l j b rest)) ≡ false)
       → Local place (node k i (joined v (node l j b w)) rest) (node l j b rest)
   rebuilds : (k l : Kind) (n m : Note) (a b rest : Forest) → IsRebuilt k n a l m b → (called_at false place ≡ true → is_some (eval_name (node l m b rest)) ≡ false) → Local place (node k n a rest) (node l m b rest)
+  -- of a statement a declaration of its names is left
+  names_left : (k : Kind) (n m : Note) (a b rest : Forest) → NamesLeft k n a m b → Local place (node k n a rest) (node a_var m b rest)
 
 pub record IsLocal (t u : Forest) : Type 0 where
   pub place : Around
@@ -161,6 +166,16 @@ changed a x y (edits.idle_body (idle_body_empties _ m body idle none)) fits = re
   old_is = placed_is a x;
   new_is = placed_is a y;
 }
+changed a x y (edits.kept_names c) fits =
+    let left = kept.names_left a x y c fits in
+    record {
+      place = place_of a;
+      old = node x.kind x.note x.below (rest_of a);
+      new = node a_var y.note y.below (rest_of a);
+      local = names_left x.kind x.note y.note x.below y.below (rest_of a) left.1;
+      old_is = placed_is a x;
+      new_is = placed_is a y ∙ ap (λ k. plug (place_of a) (node k y.note y.below (rest_of a))) left.0;
+    }
 changed a x y (edits.unused_operation c) fits = by_part a x y (unused_operation_owes a x y c) fits
 changed a x y (edits.unused_list c) fits = by_parts a x y (unused_list_owes a x y c) (unused_list_picks a x y c) fits
 changed a x y (edits.indirect_choice c) fits = by_parts a x y (indirect_choice_owes a x y c) (indirect_choice_picks a x y c) fits

@@ -18,7 +18,9 @@ use Rattle.steps.specs.Allowed.Edits.{Edit, TreeEdits, no_tree_edit, one_tree_ed
 use Rattle.steps.proofs.Owed.FitsEdits.{edit_fits}
 use Rattle.steps.proofs.KeepForm.Asked.{tested_kinds}
 use Rattle.steps.proofs.Owed.IdleBody.{idle_weighs}
-use Rattle.steps.proofs.Marked.Local.{Local, leaves, empties, empties_idle, tests, states, alternate, parts, rebuilds, is_local, IsLocal}
+use Rattle.steps.specs.KeepForm.Part.{a_var}
+use Rattle.steps.proofs.VarNames.Table.{names_thin}
+use Rattle.steps.proofs.Marked.Local.{Local, leaves, empties, empties_idle, tests, states, alternate, parts, rebuilds, names_left, is_local, IsLocal}
 use Rattle.steps.proofs.Owed.Declaring.{declaring_each, each_declaring}
 use Rattle.steps.proofs.Marked.Merged as merged
 use Rattle.steps.proofs.Marked.Merged.{same_tally, same_referring}
@@ -44,6 +46,7 @@ module _ (w : Weight) where
   tally_local place t u (alternate y l n i j o d b rest) = Prim.omega arith
   tally_local place t u (parts k l i j b v x rest gives unasked uncalled) = Prim.omega (arith, tally_joined v (node l j b x))
   tally_local place t u (rebuilds k l n m a b rest made uncalled) = Prim.omega (arith, rebuilt_tally w made.rebuilt)
+  tally_local place t u (names_left k n m a b rest made) = let none = made.brings.no_ids w in Prim.omega (arith, none)
 
   tally_plug : (a : Around) (t u : Forest) → tally w u ≤ tally w t → tally w (plug a u) ≤ tally w (plug a t)
   tally_plug here t u h = h
@@ -92,6 +95,7 @@ weight_local place t u (states how x k n m l j i o b rest none) = Prim.omega ari
 weight_local place t u (alternate y l n i j o d b rest) = Prim.omega arith
 weight_local place t u (parts k l i j b v x rest gives unasked uncalled) = Prim.omega (arith, weight_joined v (node l j b x), gives_weight k gives)
 weight_local place t u (rebuilds k l n m a b rest made uncalled) = Prim.omega (arith, made.lighter)
+weight_local place t u (names_left k n m a b rest made) = Prim.omega (arith, made.lighter)
 
 weight_plug : (a : Around) (t u : Forest) → total facts.weight u < total facts.weight t → total facts.weight (plug a u) < total facts.weight (plug a t)
 weight_plug here t u h = h
@@ -132,6 +136,7 @@ module _ (P : List ℕ → Option ℕ → Type 0) where
   declared_local place t u (alternate y l n i j o d b rest) e = (e.0, (e.1.0, e.1.1, (e.1.2.0, e.1.2.1, tt)), e.2)
   declared_local place t u (parts k l i j b v x rest gives unasked uncalled) e = let inner = declared_part v l j b x e.1 in (inner.0, inner.1, e.2)
   declared_local place t u (rebuilds k l n m a b rest made uncalled) e = each_declaring P u (λ d h. declaring_each P t e d ((rebuilt_thins (λ r. false) k l n m a b rest made.rebuilt).declarations d h))
+  declared_local place t u (names_left k n m a b rest made) e = each_declaring P u (λ d h. declaring_each P t e d ((names_thin k a_var n m a b rest made.names made.brings made.stand).declarations d h))
 
   declared_plug : (a : Around) (t u : Forest) → (EachDeclaration P t → EachDeclaration P u) → EachDeclaration P (plug a t) → EachDeclaration P (plug a u)
   declared_plug here t u f e = f e
@@ -167,6 +172,7 @@ module _ (P : List ℕ → Option ℕ → Type 0) where
   referring_local place t u (alternate y l n i j o d b rest) e = (e.0, (e.1.0, e.1.1, (e.1.2.0, e.1.2.1, tt)), e.2)
   referring_local place t u (parts k l i j b v x rest gives unasked uncalled) e = let inner = referring_part v l j b x e.1 in (inner.0, inner.1, e.2)
   referring_local place t u (rebuilds k l n m a b rest made uncalled) e = each_referring P u (λ d h. referring_each P t e d ((rebuilt_thins (λ r. false) k l n m a b rest made.rebuilt).references d h))
+  referring_local place t u (names_left k n m a b rest made) e = each_referring P u (λ d h. referring_each P t e d ((names_thin k a_var n m a b rest made.names made.brings made.stand).references d h))
 
   referring_plug : (a : Around) (t u : Forest) → (EachReference P t → EachReference P u) → EachReference P (plug a t) → EachReference P (plug a u)
   referring_plug here t u f e = f e

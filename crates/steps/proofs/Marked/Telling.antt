@@ -1,4 +1,5 @@
 -- The flags of the table's scopes go on telling what is exposed.
+use Rattle.std.specs.Prelude.{List, [], ◌∷◌, None, map}
 use Rattle.std.proofs.Common.{◌≡◌, ◌∙◌, inl, inr, ℕ, suc, Bool, true, false, not, ◌&&◌, ◌||◌, ◌==◌, true≢false, if◌then◌else◌, Option, Some, refl, sym, ap, ap₂, subst}
 use Rattle.js_syntax.specs.declared.node_kind.NodeKind.{NodeKind as Kind}
 use Rattle.js_syntax.specs.declared.node_kind.NodeKind.TheVariants as kind
@@ -7,7 +8,7 @@ use Rattle.js_syntax.specs.declared.kind.ClassKind.TheVariants as class_kind
 use Rattle.js_syntax.specs.declared.kind.VariableKind.{VariableKind}
 use Rattle.js_syntax.specs.declared.kind.VariableKind.TheVariants as variable
 use Rattle.js_syntax.specs.Class.{root}
-use Rattle.js_syntax.specs.Node.{Forest, Tree, Note, nothing, node, absent, joined, below_of, alone}
+use Rattle.js_syntax.specs.Node.{Forest, Tree, Note, nothing, node, absent, row, joined, below_of, alone}
 use Rattle.js_rebuilt.specs.Rebuilt.{is_operation, Rebuilt, ends, stays, leaves as leaves_whole, opened, built, absent_leaves, absent_comes}
 use Rattle.json_shape.specs.Shape.{Fits}
 use Rattle.scope_rules.specs.Table.{Scoping}
@@ -17,20 +18,24 @@ use Rattle.scope_laws.specs.Place.{Around, first, under}
 use Rattle.steps.specs.KeepForm.Part.{gives_way, declares_one}
 use Rattle.steps.proofs.Fit.Modules.{fits_program}
 use Rattle.steps.specs.Allowed.Edits.{Edit, TreeEdits, no_tree_edit, one_tree_edit}
-use Rattle.steps.specs.Allowed.Exposure.{exposed_at, exposure, is_script, function_is_exposed, evaluates_somewhere, shares, IsOwnFunction, IsOwnDeclarator, IsOwnDeclaration}
+use Rattle.steps.specs.Allowed.Exposure.{exposed_inside, exposed_at, exposure, is_script, function_is_exposed, evaluates_somewhere, shares, IsOwnFunction, IsOwnDeclarator, IsOwnDeclaration}
 use Rattle.steps.specs.Owed.Kept.{is_program}
 use Rattle.steps.proofs.Owed.FitsEdits.{edit_fits}
 use Rattle.scope_rules.specs.ScopeFlags as scope_flag
 use Rattle.scope_table.specs.Reading.{scope_at}
 use Rattle.scope_laws.proofs.Bindings.{same_value}
-use Rattle.js_syntax.proofs.Truth.{neither}
+use Rattle.js_syntax.proofs.Truth.{neither, first_of_both, second_of_both}
 use Rattle.steps.specs.Marked.Flags.{has_bits, scope_has, is_sloppy_block, Stand, is_within, holds_variables, declares_in, declaring_inside, stand_inside, first_mark, stands_of, stand_at, stand, Tells, Told, FlagsTell}
 use Rattle.steps.proofs.KeepForm.Asked.{idle_kinds, tested_kinds, tested_gives}
 use Rattle.steps.proofs.Marked.Redeclaring.{redeclared_told, stands_within, out_of_declaration}
-use Rattle.steps.proofs.Marked.Cuts.{Cuts, leaves, empties, empties_idle, tests, states, alternate, parts, rebuilds, inside, behind, behind_none, edit_cuts}
+use Rattle.kept_names.specs.Kept.{declarator_of}
+use Rattle.steps.specs.KeepForm.Part.{a_var}
+use Rattle.steps.proofs.VarNames.Again.{is_name_alone, is_bare_name, are_names}
+use Rattle.steps.proofs.VarNames.Left.{NamesLeft}
+use Rattle.steps.proofs.Marked.Cuts.{Cuts, leaves, empties, empties_idle, tests, states, alternate, parts, rebuilds, names_left, inside, behind, behind_none, edit_cuts}
 use Rattle.steps.proofs.Marked.Merged.{merged_told}
 use Rattle.steps.proofs.Marked.Passed.{passes_told}
-use Rattle.steps.proofs.Marked.Exposing.{never, part_no_program, Thinner, thinner_itself, thinner_cuts, Less, less_inside, below_stays, less_beside}
+use Rattle.steps.proofs.Marked.Exposing.{holds_no_program, never, part_no_program, Thinner, thinner_itself, thinner_cuts, Less, less_inside, below_stays, less_beside}
 
 -- ---- places: q is of the tree that is there now, p of the one before
 
@@ -190,6 +195,45 @@ module _ (s : Scoping) (script : Bool) where
     rebuilt_told (absent_leaves {r = r} rest) h = rebuilt_told rest (anywhere r 1 0 h)
     rebuilt_told (absent_comes {s = q} rest) h = anywhere q 0 1 (rebuilt_told rest h)
 
+  -- names declare where `var` does
+  in_var : Stand → Stand
+  in_var p = record { exposure = exposed_inside p.exposure a_var nothing 0; scope = p.scope; variables = p.variables; declaring = p.variables }
+
+  told_in_var : (p : Stand) → Tells s script p → Tells s script (in_var p)
+  unfolding in_var
+  told_in_var p h = record {
+    scope = h.scope;
+    scope_is = h.scope_is;
+    variables = h.variables;
+    variables_is = h.variables_is;
+    declaring = h.variables;
+    declaring_is = h.variables_is;
+    evaluates = h.evaluates;
+    sloppy = h.sloppy;
+    names = h.names;
+    variable_names = h.variable_names;
+    declared = h.variable_names;
+  }
+
+  one_told : (q : Stand) → Tells s script q → (k : Kind) (n m : Note) (b rest : Forest) (at : ℕ) → is_name_alone k b ≡ true → Told s script (λ i. q) (suc at) rest
+      → Told s script (λ i. q) at (node kind.VariableDeclarator n (node k m b (absent nothing)) rest)
+  one_told q h (kind.BindingName x) n m nothing rest at is later = (h, (h, tt, tt), later)
+  one_told q h (kind.BindingName x) n m (absent r) rest at is later = absurd cc
+  one_told q h (kind.BindingName x) n m (node j i c r) rest at is later = absurd cc
+  one_told q h k n m b rest at is later = absurd cc
+
+  all_told : (q : Stand) → Tells s script q → (at : ℕ) (ts : List Tree) → are_names ts ≡ true → Told s script (λ i. q) at (row (map declarator_of ts))
+  all_told q h at [] is = tt
+  all_told q h at (t ∷ ts) is =
+      one_told q h t.kind (record { span = t.note.span; id = None }) t.note t.below (row (map declarator_of ts)) at (first_of_both (is_bare_name t) (are_names ts) is) (all_told q h (suc at) ts (second_of_both (is_bare_name t) (are_names ts) is))
+
+  names_told : (p : Stand) → Tells s script p → {k : Kind} {n m : Note} {a b : Forest} → NamesLeft k n a m b → Told s script (stand_inside p a_var m b) 0 b
+  unfolding in_var
+  names_told p h {m = m} made =
+      let q = in_var p in
+      let here = told_in_var p h in
+      subst (λ b. Told s script (stand_inside p a_var m b) 0 b) (sym made.is) (here, all_told q here 0 made.names made.bare, tt)
+
   cuts_told : (listed : Bool) (t u : Forest) → Cuts listed t u → (qs ps : ℕ → Stand) (i j : ℕ) → Covers listed qs ps → (listed ≡ false → i ≡ j) → Told s script ps j t → Told s script qs i u
   cuts_told listed t u (leaves k n below rest plain) qs ps i j c f h = row_stays true rest qs ps i (suc j) c (λ l. absurd (true≢false l)) h.2
   cuts_told listed t u (empties r n m below rest) qs ps i j c f h = (tells_less (c i j f) h.0, tt, row_stays r rest qs ps (suc i) (suc j) c (λ l. ap suc (f l)) h.2)
@@ -242,6 +286,9 @@ module _ (s : Scoping) (script : Bool) where
         row_stays (is_list l) b (stand_inside (qs i) l m b) (stand_inside (ps j) l m b) 0 0 (covers_inside l m b b (thinner_itself l b) (c i j f)) (λ e. refl) new.1,
         row_stays r rest qs ps (suc i) (suc j) c (λ e. ap suc (f e)) h.2,
       )
+  cuts_told listed t u (names_left r k n m a b rest made) qs ps i j c f h =
+      let here = tells_less (c i j f) h.0 in
+      (here, names_told (qs i) here made, row_stays r rest qs ps (suc i) (suc j) c (λ e. ap suc (f e)) h.2)
   cuts_told listed t u (inside r k n below now rest called g) qs ps i j c f h = (
     tells_less (c i j f) h.0,
     cuts_told (is_list k) below now g (stand_inside (qs i) k n now) (stand_inside (ps j) k n below) 0 0 (covers_inside k n now below (thinner_cuts k below now g) (c i j f)) (λ l. refl) h.1,
@@ -278,6 +325,7 @@ root_stays listed t u (alternate y l i j o d b) m e =
     record { script = script_first y i i d d (node l j b (absent nothing)) (node l j b (node kind.EmptyStatement o nothing nothing)); mark = refl }
 root_stays listed t u (parts r k x i j b v w rest gives unasked) l e = never (sym (no_program k i (joined v (node x j b w)) rest gives) ∙ e)
 root_stays listed t u (rebuilds r k x n m a b rest made) l e = never (sym (part_no_program k n a rest made.old_unasked) ∙ e)
+root_stays listed t u (names_left r k n m a b rest made) l e = never (sym (holds_no_program k n a rest made.holds) ∙ e)
 root_stays listed t u (inside r k n below now rest called h) l e = record { script = script_first k n n now below rest rest; mark = refl }
 root_stays listed t u (behind r k n below rest now h) l e = record { script = script_first k n n below below now rest; mark = refl }
 root_stays listed t u (behind_none r rest now h) l e = never e

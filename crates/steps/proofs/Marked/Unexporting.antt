@@ -1,5 +1,6 @@
 -- What edits leave of a program exports no declaration that it did not.
-use Rattle.std.proofs.Common.{◌≡◌, ◌∙◌, ◌<◌, ◌+◌, ◌==◌, ℕ, suc, List, [], ◌∷◌, ◌++◌, Bool, true, false, ◌&&◌, ◌||◌, true≢false, if◌then◌else◌, inl, inr, append-nil, refl, sym, ap, ap₂, subst, arith}
+use Rattle.std.specs.Prelude.{None, map}
+use Rattle.std.proofs.Common.{◌≡◌, ◌∙◌, ◌<◌, ◌+◌, ◌==◌, ℕ, suc, List, [], ◌∷◌, ◌++◌, Bool, true, false, ◌&&◌, ◌||◌, true≢false, if◌then◌else◌, inl, inr, append-nil, refl, sym, ap, ap₂, subst, arith, Option, ◌⊎◌}
 use Rattle.js_syntax.specs.declared.node_kind.NodeKind.{NodeKind as Kind}
 use Rattle.js_syntax.specs.declared.node_kind.NodeKind.TheVariants as kind
 use Rattle.js_syntax.specs.declared.kind.FunctionKind.{FunctionKind}
@@ -11,7 +12,8 @@ use Rattle.js_syntax.specs.declared.kind.MethodKind.TheVariants as method_kind
 use Rattle.js_syntax.specs.declared.kind.VariableKind.TheVariants as variable
 use Rattle.js_syntax.specs.declared.scalar.SourceType.{SourceType}
 use Rattle.js_syntax.specs.Class.{root}
-use Rattle.js_syntax.specs.Node.{Forest, Note, nothing, node, absent, joined, alone}
+use Rattle.js_syntax.specs.Node.{Forest, Note, nothing, node, absent, joined, alone, Tree, nowhere, row}
+use Rattle.js_syntax.proofs.Truth.{first_of_both, second_of_both}
 use Rattle.json_shape.specs.Shape.{Fits}
 use Rattle.scope_rules.specs.declared.layer.Layer.{Layer}
 use Rattle.scope_rules.specs.declared.layer.Role.{Role}
@@ -20,12 +22,16 @@ use Rattle.scope_rules.specs.Binding.{same_layer}
 use Rattle.scope_rules.specs.Site.{Site, scope_site, ScopeSite, BindingSite, own_sites, opens_one, scope_count, sites, bindings_among}
 use Rattle.scope_laws.specs.Exact.{Among}
 use Rattle.scope_laws.specs.Lists.{is_list}
-use Rattle.scope_counts.specs.Counts.{Decl, no_part, aims_inside, hoisted}
+use Rattle.scope_counts.specs.Counts.{Decl, no_part, aims_inside, hoisted, Aims}
 use Rattle.scope_counts.specs.Sites.{decls_in}
 use Rattle.scope_counts.proofs.Layers.{aims_at}
 use Rattle.scope_counts.proofs.Counting.{hoisted_are}
+use Rattle.scope_counts.proofs.Names.{same_layer_true}
 use Rattle.scope_counts.proofs.Whole.{same_layer_same}
-use Rattle.steps.specs.KeepForm.Part.{gives_way, declares_one}
+use Rattle.kept_names.specs.Kept.{declarator_of}
+use Rattle.steps.specs.KeepForm.Part.{gives_way, declares_one, a_var}
+use Rattle.steps.proofs.VarNames.Again.{is_name_alone, is_bare_name, are_names}
+use Rattle.steps.proofs.VarNames.Left.{NamesLeft}
 use Rattle.steps.specs.Naming.Standing.{is_export, exported_sites, exported_declarations}
 use Rattle.steps.proofs.Naming.Sites.{InThree, in_first, in_second, in_third, binding_in, binding_left, binding_second, binding_third}
 use Rattle.steps.proofs.Fit.Modules.{fits_program}
@@ -35,11 +41,11 @@ use Rattle.steps.specs.Owed.Part.{DeclaresNothing}
 use Rattle.steps.proofs.Owed.FitsEdits.{edit_fits}
 use Rattle.steps.specs.Marked.Exports.{IsMarkedAmong, WasExported}
 use Rattle.steps.proofs.KeepForm.Asked.{idle_kinds, tested_kinds, tested_gives}
-use Rattle.steps.proofs.Marked.Cuts.{Cuts, leaves, empties, empties_idle, tests, states, alternate, parts, rebuilds, inside as cut_inside, behind, behind_none, edit_cuts}
+use Rattle.steps.proofs.Marked.Cuts.{Cuts, leaves, empties, empties_idle, tests, states, alternate, parts, rebuilds, inside as cut_inside, behind, behind_none, edit_cuts, names_left}
 use Rattle.steps.proofs.Marked.Merged.{same_exports}
 use Rattle.steps.proofs.Marked.Passed as passed
 use Rattle.steps.proofs.Marked.Telling.{no_program}
-use Rattle.steps.proofs.Marked.Exposing.{never, part_no_program, thinner_cuts}
+use Rattle.steps.proofs.Marked.Exposing.{never, part_no_program, holds_no_program, thinner_cuts}
 
 -- ---- contexts: what declares in the program's own scope now declared there before
 
@@ -224,6 +230,33 @@ declares_none t none all cs at next b some h =
 statement_declares : (t : Forest) (o : Note) → DeclaresNothing t → DeclaresNothing (node kind.ExpressionStatement o t nothing)
 statement_declares t o none aims at = append-nil (hoisted (aims_inside no_part (aims at) kind.ExpressionStatement t) 0 t) ∙ none (aims_inside no_part (aims at) kind.ExpressionStatement t) 0
 
+-- what declares the same in every layer has a declaration of each name that the other one has
+among_unless : (i : Bool) (d e : Decl) (ds : List Decl) → Among d (if i then e ∷ ds else ds) → ((i ≡ true) × (e ≡ d)) ⊎ Among d ds
+among_unless true d e ds (inl is) = inl (refl, is)
+among_unless true d e ds (inr h) = inr h
+among_unless false d e ds h = inr h
+
+pub record HasDecl (l : Layer) (d : Decl) (bs : List BindingSite) : Type 0 where
+  pub site : BindingSite
+  pub stands : Among site bs
+  pub layer_is : site.layer ≡ l
+  pub decl_is : decl_of site ≡ d
+
+of_decls : (l : Layer) (d : Decl) (bs : List BindingSite) → Among d (decls_in l bs) → HasDecl l d bs
+of_decls l d [] h = absurd h
+of_decls l d (b ∷ bs) h = elim (among_unless (same_layer b.layer l) d (decl_of b) (decls_in l bs) h) [
+  | inl here ↦ record { site = b; stands = inl refl; layer_is = same_layer_true b.layer l here.0; decl_is = here.1 }
+  | inr later ↦ let it = of_decls l d bs later in record { site = it.site; stands = inr it.stands; layer_is = it.layer_is; decl_is = it.decl_is }
+]
+
+declared_by_both : (t u : Forest) (cs : ℕ → Context) (at next : ℕ) → ((aims : ℕ → Aims) → hoisted aims at t ≡ hoisted aims at u) → (b : BindingSite) → b.layer.scope < next
+    → Among b (bindings_among (sites cs at next u)) → HasDecl b.layer (decl_of b) (bindings_among (sites cs at next t))
+declared_by_both t u cs at next same b some h =
+    let aims : ℕ → Aims = λ i. aims_at b.layer (cs i) in
+    of_decls b.layer (decl_of b) (bindings_among (sites cs at next t))
+    (subst (Among (decl_of b)) (hoisted_are b.layer cs aims at next u some (λ i. refl) ∙ sym (same aims) ∙ sym (hoisted_are b.layer cs aims at next t some (λ i. refl)))
+    (among_decls (bindings_among (sites cs at next u)) b h))
+
 -- ---- a declaration that is there now, in the program's own scope
 
 module _ (e : BindingSite) (top : e.layer.scope ≡ 0) where
@@ -331,9 +364,49 @@ module _ (e : BindingSite) (top : e.layer.scope ≡ 0) where
       (covers_by (is_list l) l b b (qs i) (ps j) next other refl some (λ e. refl) (c i j (λ l. f))) (λ e. refl) g)
       (λ g. absurd g) h
 
+-- names export nothing
+one_exports_none : (cs : ℕ → Context) (at next : ℕ) (k : Kind) (n m : Note) (b rest : Forest) → is_name_alone k b ≡ true → ((at next : ℕ) → collected false cs at next rest ≡ [])
+    → collected false cs at next (node kind.VariableDeclarator n (node k m b (absent nothing)) rest) ≡ []
+one_exports_none cs at next (kind.BindingName x) n m nothing rest h later = later _ _
+one_exports_none cs at next (kind.BindingName x) n m (absent r) rest h later = absurd cc
+one_exports_none cs at next (kind.BindingName x) n m (node j i c r) rest h later = absurd cc
+one_exports_none cs at next k n m b rest h later = absurd cc
+
+declarators_export_none : (cs : ℕ → Context) (ts : List Tree) → are_names ts ≡ true → (at next : ℕ) → collected false cs at next (row (map declarator_of ts)) ≡ []
+declarators_export_none cs [] h at next = refl
+declarators_export_none cs (t ∷ ts) h at next =
+    one_exports_none cs at next t.kind (record { span = t.note.span; id = None }) t.note t.below (row (map declarator_of ts)) (first_of_both (is_bare_name t) (are_names ts) h) (declarators_export_none cs ts (second_of_both (is_bare_name t) (are_names ts) h))
+
+no_exports_there : {k : Kind} {n m : Note} {a b : Forest} → NamesLeft k n a m b → (cs : ℕ → Context) (at next : ℕ) (e : BindingSite) → Among e (bindings_among (collected false cs at next (node a_var m b nothing))) → ⊥
+no_exports_there {m = m} made cs at next e h =
+    let inner : ℕ → Context = inside (inside (cs at) next a_var (node kind.Declarators nowhere (row (map declarator_of made.names)) nothing) 0) (next + 0) kind.Declarators (row (map declarator_of made.names)) in
+    subst (λ ss. Among e (bindings_among ss)) (ap (λ b. collected false cs at next (node a_var m b nothing)) made.is ∙ ap (λ ss. (ss ++ []) ++ []) (declarators_export_none inner made.names made.bare 0 (next + 0 + 0))) h
+
+left_alike : {k : Kind} {n m : Note} {a b : Forest} → NamesLeft k n a m b → (aims : Aims) → hoisted (λ q. aims) 0 (node k n a nothing) ≡ hoisted (λ q. aims) 0 (node a_var m b nothing)
+left_alike made aims = made.same aims
+
+-- what a declaration of names declares the statement declared
+names_found : (e : BindingSite) (top : e.layer.scope ≡ 0) (all : Bool) {k : Kind} {n m : Note} {a b : Forest} → NamesLeft k n a m b → (q p : Context) (i j next other : ℕ) → 0 < next → Ahead q p
+    → Among e (bindings_among (collected all (λ z. q) i next (node a_var m b nothing))) → Found e top (collected all (λ z. p) j other (node k n a nothing))
+names_found e top true {k = k} {n = n} {m = m} {a = a} {b = b} made q p i j next other some h g =
+    let new = node a_var m b nothing in
+    let old = node k n a nothing in
+    let it = declared_by_both old new (λ z. q) i next (λ aims. left_alike made (aims i)) e (Prim.omega (arith, some, top)) (collected_declared true (λ z. q) i next new e g) in
+    let at_top : it.site.layer.scope ≡ 0 = ap (λ (l : Layer). l.scope) it.layer_is ∙ top in
+    let there = row_found it.site at_top true true old (λ z. q) (λ z. p) i j next other some (λ x y f. h) (λ l. absurd (true≢false l)) (subst (λ ss. Among it.site (bindings_among ss)) (sym (all_collected (λ z. q) i next old)) it.stands) in
+    record {
+      declaration = there.declaration;
+      stands = there.stands;
+      is_outermost = there.is_outermost;
+      same_mark = there.same_mark ∙ ap (λ (d : Decl). d.symbol) it.decl_is;
+      same_name = there.same_name ∙ ap (λ (d : Decl). d.name) it.decl_is;
+    }
+names_found e top false made q p i j next other some h g = absurd (no_exports_there made (λ z. q) i next e g)
+
+module _ (e : BindingSite) (top : e.layer.scope ≡ 0) where
   -- what declares nothing, in the place of a node
   replaced_found : (all listed : Bool) (k l : Kind) (n m : Note) (a b rest : Forest) → DeclaresNothing (node l m b nothing) → (qs ps : ℕ → Context) (i j next other : ℕ) → 0 < next → Covers listed qs ps → (listed ≡ false → i ≡ j)
-      → Among e (bindings_among (collected all qs i next (node l m b rest))) → Found (collected all ps j other (node k n a rest))
+      → Among e (bindings_among (collected all qs i next (node l m b rest))) → Found e top (collected all ps j other (node k n a rest))
   replaced_found all r k l n m a b rest nothing_declared qs ps i j next other some c f h =
       by (binding_in e (if all then own_sites (qs i) m l b else []) (collected (all || is_export l) (inside (qs i) next l b) 0 (next + opens_one l b) b) (collected all qs (suc i) (next + scope_count (node l m b nothing)) rest) h)
     where
@@ -341,19 +414,19 @@ module _ (e : BindingSite) (top : e.layer.scope ≡ 0) where
       none g = declares_none (node l m b nothing) nothing_declared all qs i next e (Prim.omega (arith, some, top)) g
 
       by : InThree e (bindings_among (if all then own_sites (qs i) m l b else [])) (bindings_among (collected (all || is_export l) (inside (qs i) next l b) 0 (next + opens_one l b) b)) (bindings_among (collected all qs (suc i) (next + scope_count (node l m b nothing)) rest))
-          → Found (collected all ps j other (node k n a rest))
-      by (in_first g) = absurd (none (rest_only (if all then own_sites (qs i) m l b else []) (collected (all || is_export l) (inside (qs i) next l b) 0 (next + opens_one l b) b) [] g))
+          → Found e top (collected all ps j other (node k n a rest))
+      by (in_first g) = absurd (none (rest_only e top (if all then own_sites (qs i) m l b else []) (collected (all || is_export l) (inside (qs i) next l b) 0 (next + opens_one l b) b) [] g))
       by (in_second g) = absurd (none (binding_second e (if all then own_sites (qs i) m l b else []) (collected (all || is_export l) (inside (qs i) next l b) 0 (next + opens_one l b) b) [] g))
       by (in_third g) =
-          found_third (if all then own_sites (ps j) n k a else []) (collected (all || is_export k) (inside (ps j) other k a) 0 (other + opens_one k a) a) (collected all ps (suc j) (other + scope_count (node k n a nothing)) rest)
-          (row_found all r rest qs ps (suc i) (suc j) (next + scope_count (node l m b nothing)) (other + scope_count (node k n a nothing)) (Prim.omega (arith, some)) c (λ d. ap suc (f d)) g)
+          found_third e top (if all then own_sites (ps j) n k a else []) (collected (all || is_export k) (inside (ps j) other k a) 0 (other + opens_one k a) a) (collected all ps (suc j) (other + scope_count (node k n a nothing)) rest)
+          (row_found e top all r rest qs ps (suc i) (suc j) (next + scope_count (node l m b nothing)) (other + scope_count (node k n a nothing)) (Prim.omega (arith, some)) c (λ d. ap suc (f d)) g)
 
-  cuts_found : (all listed : Bool) (t u : Forest) → Cuts listed t u → (qs ps : ℕ → Context) (i j next other : ℕ) → 0 < next → Covers listed qs ps → (listed ≡ false → i ≡ j) → Among e (bindings_among (collected all qs i next u)) → Found (collected all ps j other t)
+  cuts_found : (all listed : Bool) (t u : Forest) → Cuts listed t u → (qs ps : ℕ → Context) (i j next other : ℕ) → 0 < next → Covers listed qs ps → (listed ≡ false → i ≡ j) → Among e (bindings_among (collected all qs i next u)) → Found e top (collected all ps j other t)
   cuts_found all listed t u (leaves k n below rest plain) qs ps i j next other some c f h =
-      found_third (if all then own_sites (ps j) n k below else []) (collected (all || is_export k) (inside (ps j) other k below) 0 (other + opens_one k below) below) (collected all ps (suc j) (other + scope_count (node k n below nothing)) rest)
-      (row_found all true rest qs ps i (suc j) next (other + scope_count (node k n below nothing)) some c (λ l. absurd (true≢false l)) h)
-  cuts_found all listed t u (empties r n m below rest) qs ps i j next other some c f h = emptied_found all r kind.ExpressionStatement n m below rest qs ps i j next other some c f h
-  cuts_found all listed t u (empties_idle r k n m below rest idle) qs ps i j next other some c f h = emptied_found all r k n m below rest qs ps i j next other some c f h
+      found_third e top (if all then own_sites (ps j) n k below else []) (collected (all || is_export k) (inside (ps j) other k below) 0 (other + opens_one k below) below) (collected all ps (suc j) (other + scope_count (node k n below nothing)) rest)
+      (row_found e top all true rest qs ps i (suc j) next (other + scope_count (node k n below nothing)) some c (λ l. absurd (true≢false l)) h)
+  cuts_found all listed t u (empties r n m below rest) qs ps i j next other some c f h = emptied_found e top all r kind.ExpressionStatement n m below rest qs ps i j next other some c f h
+  cuts_found all listed t u (empties_idle r k n m below rest idle) qs ps i j next other some c f h = emptied_found e top all r k n m below rest qs ps i j next other some c f h
   cuts_found all listed t u (tests r k l n m y b after rest tested) qs ps i j next other some c f h =
       by (binding_in e (if all then own_sites (qs i) m kind.ExpressionStatement (node l y b nothing) else []) (collected (all || is_export kind.ExpressionStatement) (inside (qs i) next kind.ExpressionStatement (node l y b nothing)) 0 (next + opens_one kind.ExpressionStatement (node l y b nothing)) (node l y b nothing)) (collected all qs (suc i) (next + scope_count (node kind.ExpressionStatement m (node l y b nothing) nothing)) rest) h)
     where
@@ -365,65 +438,94 @@ module _ (e : BindingSite) (top : e.layer.scope ≡ 0) where
       as_all true = refl
       as_all false = refl
 
-      here_found : Among e (bindings_among (collected (all || is_export kind.ExpressionStatement) (inside (qs i) next kind.ExpressionStatement (node l y b nothing)) 0 (next + opens_one kind.ExpressionStatement (node l y b nothing)) (node l y b nothing))) → Found (collected (all || is_export k) (inside (ps j) other k (node l y b after)) 0 (other + opens_one k (node l y b after)) (node l y b after))
+      here_found : Among e (bindings_among (collected (all || is_export kind.ExpressionStatement) (inside (qs i) next kind.ExpressionStatement (node l y b nothing)) 0 (next + opens_one kind.ExpressionStatement (node l y b nothing)) (node l y b nothing))) → Found e top (collected (all || is_export k) (inside (ps j) other k (node l y b after)) 0 (other + opens_one k (node l y b after)) (node l y b after))
       here_found g =
           let gives = tested_gives k tested in
-          subst (λ a. Found (collected a (inside (ps j) other k (node l y b after)) 0 (other + opens_one k (node l y b after)) (node l y b after))) (sym (no_export all k gives))
-          (part_found all nothing l y b after (inside (qs i) next kind.ExpressionStatement (node l y b nothing) 0) (inside (ps j) other k (node l y b after)) 0 (next + opens_one kind.ExpressionStatement (node l y b nothing)) (other + opens_one k (node l y b after))
+          subst (λ a. Found e top (collected a (inside (ps j) other k (node l y b after)) 0 (other + opens_one k (node l y b after)) (node l y b after))) (sym (no_export e top all k gives))
+          (part_found e top all nothing l y b after (inside (qs i) next kind.ExpressionStatement (node l y b nothing) 0) (inside (ps j) other k (node l y b after)) 0 (next + opens_one kind.ExpressionStatement (node l y b nothing)) (other + opens_one k (node l y b after))
           (Prim.omega (arith, some)) (λ at. let there = ahead_part (qs i) (ps j) next other some (c i j f) k (node l y b after) gives at in record { variables = there.variables; block = there.block; declaring = there.declaring })
           (subst (λ a. Among e (bindings_among (collected a (inside (qs i) next kind.ExpressionStatement (node l y b nothing)) 0 (next + opens_one kind.ExpressionStatement (node l y b nothing)) (node l y b nothing)))) (as_all all) g))
 
       by : InThree e (bindings_among (if all then own_sites (qs i) m kind.ExpressionStatement (node l y b nothing) else [])) (bindings_among (collected (all || is_export kind.ExpressionStatement) (inside (qs i) next kind.ExpressionStatement (node l y b nothing)) 0 (next + opens_one kind.ExpressionStatement (node l y b nothing)) (node l y b nothing)))
-          (bindings_among (collected all qs (suc i) (next + scope_count (node kind.ExpressionStatement m (node l y b nothing) nothing)) rest)) → Found (collected all ps j other (node k n (node l y b after) rest))
+          (bindings_among (collected all qs (suc i) (next + scope_count (node kind.ExpressionStatement m (node l y b nothing) nothing)) rest)) → Found e top (collected all ps j other (node k n (node l y b after) rest))
       by (in_first g) = absurd (none_own_here all g)
       by (in_second g) =
-          found_second (if all then own_sites (ps j) n k (node l y b after) else []) (collected (all || is_export k) (inside (ps j) other k (node l y b after)) 0 (other + opens_one k (node l y b after)) (node l y b after)) (collected all ps (suc j) (other + scope_count (node k n (node l y b after) nothing)) rest)
+          found_second e top (if all then own_sites (ps j) n k (node l y b after) else []) (collected (all || is_export k) (inside (ps j) other k (node l y b after)) 0 (other + opens_one k (node l y b after)) (node l y b after)) (collected all ps (suc j) (other + scope_count (node k n (node l y b after) nothing)) rest)
           (here_found g)
       by (in_third g) =
-          found_third (if all then own_sites (ps j) n k (node l y b after) else []) (collected (all || is_export k) (inside (ps j) other k (node l y b after)) 0 (other + opens_one k (node l y b after)) (node l y b after)) (collected all ps (suc j) (other + scope_count (node k n (node l y b after) nothing)) rest)
-          (row_found all r rest qs ps (suc i) (suc j) (next + scope_count (node kind.ExpressionStatement m (node l y b nothing) nothing)) (other + scope_count (node k n (node l y b after) nothing)) (Prim.omega (arith, some)) c (λ a. ap suc (f a)) g)
+          found_third e top (if all then own_sites (ps j) n k (node l y b after) else []) (collected (all || is_export k) (inside (ps j) other k (node l y b after)) 0 (other + opens_one k (node l y b after)) (node l y b after)) (collected all ps (suc j) (other + scope_count (node k n (node l y b after) nothing)) rest)
+          (row_found e top all r rest qs ps (suc i) (suc j) (next + scope_count (node kind.ExpressionStatement m (node l y b nothing) nothing)) (other + scope_count (node k n (node l y b after) nothing)) (Prim.omega (arith, some)) c (λ a. ap suc (f a)) g)
   cuts_found all listed t u (states r how x k n m l j2 y o b rest none) qs ps i j next other some c f h =
       replaced_found all r (kind.VariableDeclaration how) kind.ExpressionStatement n o (declares_one m l j2 x (alone k y b)) (alone k y b) rest (statement_declares (alone k y b) o none) qs ps i j next other some c f h
   cuts_found all listed t u (alternate k l n m o below b) qs ps i j next other some c f h =
-      at_node all (qs i) (ps j) (c i j f) n k below below (collected (all || is_export k) (inside (qs i) next k below) 0 (next + opens_one k below) below) (collected all qs (suc i) (next + scope_count (node k n below nothing)) (node l m b (absent nothing)))
+      at_node e top all (qs i) (ps j) (c i j f) n k below below (collected (all || is_export k) (inside (qs i) next k below) 0 (next + opens_one k below) below) (collected all qs (suc i) (next + scope_count (node k n below nothing)) (node l m b (absent nothing)))
       (collected (all || is_export k) (inside (ps j) other k below) 0 (other + opens_one k below) below) (collected all ps (suc j) (other + scope_count (node k n below nothing)) (node l m b (node kind.EmptyStatement o nothing nothing)))
-      (λ g. row_found (all || is_export k) (is_list k) below (inside (qs i) next k below) (inside (ps j) other k below) 0 0 (next + opens_one k below) (other + opens_one k below) (Prim.omega (arith, some))
+      (λ g. row_found e top (all || is_export k) (is_list k) below (inside (qs i) next k below) (inside (ps j) other k below) 0 0 (next + opens_one k below) (other + opens_one k below) (Prim.omega (arith, some))
       (covers_by (is_list k) k below below (qs i) (ps j) next other refl some (λ l. refl) (c i j f)) (λ l. refl) g)
-      (λ g. last_found all l m o b qs ps (suc i) (suc j) (next + scope_count (node k n below nothing)) (other + scope_count (node k n below nothing)) (Prim.omega (arith, some)) c (ap suc (f refl)) g) h
+      (λ g. last_found e top all l m o b qs ps (suc i) (suc j) (next + scope_count (node k n below nothing)) (other + scope_count (node k n below nothing)) (Prim.omega (arith, some)) c (ap suc (f refl)) g) h
   cuts_found all listed t u (parts r k l m n b v w rest gives unasked) qs ps i j next other some c f h =
       let whole = joined v (node l n b w) in
       by whole refl (binding_in e (if all then own_sites (qs i) n l b else []) (collected (all || is_export l) (inside (qs i) next l b) 0 (next + opens_one l b) b) (collected all qs (suc i) (next + scope_count (node l n b nothing)) rest) h)
     where
       part : (x : Forest) → x ≡ joined v (node l n b w) → Among e (bindings_among ((if all then own_sites (qs i) n l b else []) ++ collected (all || is_export l) (inside (qs i) next l b) 0 (next + opens_one l b) b ++ []))
-          → Found (collected (all || is_export k) (inside (ps j) other k x) 0 (other + opens_one k x) x)
+          → Found e top (collected (all || is_export k) (inside (ps j) other k x) 0 (other + opens_one k x) x)
       part x is g =
-          subst (λ a. Found (collected a (inside (ps j) other k x) 0 (other + opens_one k x) x)) (sym (no_export all k gives))
-          (subst (λ y. Found (collected all (inside (ps j) other k x) 0 (other + opens_one k x) y)) (sym is)
-          (part_found all v l n b w (qs i) (inside (ps j) other k x) 0 next (other + opens_one k x) some (λ at. ahead_part (qs i) (ps j) next other some (c i j f) k x gives at) g))
+          subst (λ a. Found e top (collected a (inside (ps j) other k x) 0 (other + opens_one k x) x)) (sym (no_export e top all k gives))
+          (subst (λ y. Found e top (collected all (inside (ps j) other k x) 0 (other + opens_one k x) y)) (sym is)
+          (part_found e top all v l n b w (qs i) (inside (ps j) other k x) 0 next (other + opens_one k x) some (λ at. ahead_part (qs i) (ps j) next other some (c i j f) k x gives at) g))
 
       by : (x : Forest) → x ≡ joined v (node l n b w)
           → InThree e (bindings_among (if all then own_sites (qs i) n l b else [])) (bindings_among (collected (all || is_export l) (inside (qs i) next l b) 0 (next + opens_one l b) b)) (bindings_among (collected all qs (suc i) (next + scope_count (node l n b nothing)) rest))
-          → Found (collected all ps j other (node k m x rest))
+          → Found e top (collected all ps j other (node k m x rest))
       by x is (in_first g) =
-          found_second (if all then own_sites (ps j) m k x else []) (collected (all || is_export k) (inside (ps j) other k x) 0 (other + opens_one k x) x) (collected all ps (suc j) (other + scope_count (node k m x nothing)) rest)
-          (part x is (rest_only (if all then own_sites (qs i) n l b else []) (collected (all || is_export l) (inside (qs i) next l b) 0 (next + opens_one l b) b) [] g))
+          found_second e top (if all then own_sites (ps j) m k x else []) (collected (all || is_export k) (inside (ps j) other k x) 0 (other + opens_one k x) x) (collected all ps (suc j) (other + scope_count (node k m x nothing)) rest)
+          (part x is (rest_only e top (if all then own_sites (qs i) n l b else []) (collected (all || is_export l) (inside (qs i) next l b) 0 (next + opens_one l b) b) [] g))
       by x is (in_second g) =
-          found_second (if all then own_sites (ps j) m k x else []) (collected (all || is_export k) (inside (ps j) other k x) 0 (other + opens_one k x) x) (collected all ps (suc j) (other + scope_count (node k m x nothing)) rest)
+          found_second e top (if all then own_sites (ps j) m k x else []) (collected (all || is_export k) (inside (ps j) other k x) 0 (other + opens_one k x) x) (collected all ps (suc j) (other + scope_count (node k m x nothing)) rest)
           (part x is (binding_second e (if all then own_sites (qs i) n l b else []) (collected (all || is_export l) (inside (qs i) next l b) 0 (next + opens_one l b) b) [] g))
       by x is (in_third g) =
-          found_third (if all then own_sites (ps j) m k x else []) (collected (all || is_export k) (inside (ps j) other k x) 0 (other + opens_one k x) x) (collected all ps (suc j) (other + scope_count (node k m x nothing)) rest)
-          (row_found all r rest qs ps (suc i) (suc j) (next + scope_count (node l n b nothing)) (other + scope_count (node k m x nothing)) (Prim.omega (arith, some)) c (λ a. ap suc (f a)) g)
-  cuts_found all listed t u (rebuilds r k l n m a b rest made) qs ps i j next other some c f h = replaced_found all r k l n m a b rest made.declares qs ps i j next other some c f h
+          found_third e top (if all then own_sites (ps j) m k x else []) (collected (all || is_export k) (inside (ps j) other k x) 0 (other + opens_one k x) x) (collected all ps (suc j) (other + scope_count (node k m x nothing)) rest)
+          (row_found e top all r rest qs ps (suc i) (suc j) (next + scope_count (node l n b nothing)) (other + scope_count (node k m x nothing)) (Prim.omega (arith, some)) c (λ a. ap suc (f a)) g)
+  cuts_found all listed t u (rebuilds r k l n m a b rest made) qs ps i j next other some c f h =
+      by (binding_in e (if all then own_sites (qs i) m l b else []) (collected (all || is_export l) (inside (qs i) next l b) 0 (next + opens_one l b) b) (collected all qs (suc i) (next + scope_count (node l m b nothing)) rest) h)
+    where
+      none : Among e (bindings_among ((if all then own_sites (qs i) m l b else []) ++ collected (all || is_export l) (inside (qs i) next l b) 0 (next + opens_one l b) b ++ [])) → ⊥
+      none g = declares_none (node l m b nothing) made.declares all qs i next e (Prim.omega (arith, some, top)) g
+
+      by : InThree e (bindings_among (if all then own_sites (qs i) m l b else [])) (bindings_among (collected (all || is_export l) (inside (qs i) next l b) 0 (next + opens_one l b) b)) (bindings_among (collected all qs (suc i) (next + scope_count (node l m b nothing)) rest))
+          → Found e top (collected all ps j other (node k n a rest))
+      by (in_first g) = absurd (none (rest_only e top (if all then own_sites (qs i) m l b else []) (collected (all || is_export l) (inside (qs i) next l b) 0 (next + opens_one l b) b) [] g))
+      by (in_second g) = absurd (none (binding_second e (if all then own_sites (qs i) m l b else []) (collected (all || is_export l) (inside (qs i) next l b) 0 (next + opens_one l b) b) [] g))
+      by (in_third g) =
+          found_third e top (if all then own_sites (ps j) n k a else []) (collected (all || is_export k) (inside (ps j) other k a) 0 (other + opens_one k a) a) (collected all ps (suc j) (other + scope_count (node k n a nothing)) rest)
+          (row_found e top all r rest qs ps (suc i) (suc j) (next + scope_count (node l m b nothing)) (other + scope_count (node k n a nothing)) (Prim.omega (arith, some)) c (λ d. ap suc (f d)) g)
+  cuts_found all listed t u (names_left r k n m a b rest made) qs ps i j next other some c f h =
+      by (binding_in e (if all then own_sites (qs i) m a_var b else []) (collected (all || is_export a_var) (inside (qs i) next a_var b) 0 (next + opens_one a_var b) b) (collected all qs (suc i) (next + scope_count (node a_var m b nothing)) rest) h)
+    where
+      here : Among e (bindings_among (collected all (λ z. qs i) i next (node a_var m b nothing))) → Found e top (collected all ps j other (node k n a rest))
+      here g =
+          let own = (if all then own_sites (ps j) n k a else []) ++ collected (all || is_export k) (inside (ps j) other k a) 0 (other + opens_one k a) a in
+          let later = collected all ps (suc j) (other + scope_count (node k n a nothing)) rest in
+          moved e top (own ++ []) (own ++ later) (λ d x. binding_left d own later (subst (λ ss. Among d (bindings_among ss)) (append-nil own) x))
+          (names_found e top all made (qs i) (ps j) i j next other some (c i j f) g)
+
+      by : InThree e (bindings_among (if all then own_sites (qs i) m a_var b else [])) (bindings_among (collected (all || is_export a_var) (inside (qs i) next a_var b) 0 (next + opens_one a_var b) b)) (bindings_among (collected all qs (suc i) (next + scope_count (node a_var m b nothing)) rest))
+          → Found e top (collected all ps j other (node k n a rest))
+      by (in_first g) = here (rest_only e top (if all then own_sites (qs i) m a_var b else []) (collected (all || is_export a_var) (inside (qs i) next a_var b) 0 (next + opens_one a_var b) b) [] g)
+      by (in_second g) = here (binding_second e (if all then own_sites (qs i) m a_var b else []) (collected (all || is_export a_var) (inside (qs i) next a_var b) 0 (next + opens_one a_var b) b) [] g)
+      by (in_third g) =
+          found_third e top (if all then own_sites (ps j) n k a else []) (collected (all || is_export k) (inside (ps j) other k a) 0 (other + opens_one k a) a) (collected all ps (suc j) (other + scope_count (node k n a nothing)) rest)
+          (row_found e top all r rest qs ps (suc i) (suc j) (next + scope_count (node a_var m b nothing)) (other + scope_count (node k n a nothing)) (Prim.omega (arith, some)) c (λ d. ap suc (f d)) g)
   cuts_found all listed t u (cut_inside r k n below now rest called x) qs ps i j next other some c f h =
-      at_node all (qs i) (ps j) (c i j f) n k now below (collected (all || is_export k) (inside (qs i) next k now) 0 (next + opens_one k now) now) (collected all qs (suc i) (next + scope_count (node k n now nothing)) rest)
+      at_node e top all (qs i) (ps j) (c i j f) n k now below (collected (all || is_export k) (inside (qs i) next k now) 0 (next + opens_one k now) now) (collected all qs (suc i) (next + scope_count (node k n now nothing)) rest)
       (collected (all || is_export k) (inside (ps j) other k below) 0 (other + opens_one k below) below) (collected all ps (suc j) (other + scope_count (node k n below nothing)) rest)
       (λ g. cuts_found (all || is_export k) (is_list k) below now x (inside (qs i) next k now) (inside (ps j) other k below) 0 0 (next + opens_one k now) (other + opens_one k below) (Prim.omega (arith, some))
       (covers_by (is_list k) k now below (qs i) (ps j) next other refl some (thinner_cuts k below now x).second (c i j f)) (λ l. refl) g)
-      (λ g. row_found all r rest qs ps (suc i) (suc j) (next + scope_count (node k n now nothing)) (other + scope_count (node k n below nothing)) (Prim.omega (arith, some)) c (λ l. ap suc (f l)) g) h
+      (λ g. row_found e top all r rest qs ps (suc i) (suc j) (next + scope_count (node k n now nothing)) (other + scope_count (node k n below nothing)) (Prim.omega (arith, some)) c (λ l. ap suc (f l)) g) h
   cuts_found all listed t u (behind r k n below rest now x) qs ps i j next other some c f h =
-      at_node all (qs i) (ps j) (c i j f) n k below below (collected (all || is_export k) (inside (qs i) next k below) 0 (next + opens_one k below) below) (collected all qs (suc i) (next + scope_count (node k n below nothing)) now)
+      at_node e top all (qs i) (ps j) (c i j f) n k below below (collected (all || is_export k) (inside (qs i) next k below) 0 (next + opens_one k below) below) (collected all qs (suc i) (next + scope_count (node k n below nothing)) now)
       (collected (all || is_export k) (inside (ps j) other k below) 0 (other + opens_one k below) below) (collected all ps (suc j) (other + scope_count (node k n below nothing)) rest)
-      (λ g. row_found (all || is_export k) (is_list k) below (inside (qs i) next k below) (inside (ps j) other k below) 0 0 (next + opens_one k below) (other + opens_one k below) (Prim.omega (arith, some))
+      (λ g. row_found e top (all || is_export k) (is_list k) below (inside (qs i) next k below) (inside (ps j) other k below) 0 0 (next + opens_one k below) (other + opens_one k below) (Prim.omega (arith, some))
       (covers_by (is_list k) k below below (qs i) (ps j) next other refl some (λ l. refl) (c i j f)) (λ l. refl) g)
       (λ g. cuts_found all r rest now x qs ps (suc i) (suc j) (next + scope_count (node k n below nothing)) (other + scope_count (node k n below nothing)) (Prim.omega (arith, some)) c (λ l. ap suc (f l)) g) h
   cuts_found all listed t u (behind_none r rest now x) qs ps i j next other some c f h = cuts_found all r rest now x qs ps (suc i) (suc j) next other some c (λ l. ap suc (f l)) h
@@ -437,18 +539,18 @@ module _ (e : BindingSite) (top : e.layer.scope ≡ 0) where
   collected_exports t = collected false (λ at. outermost) 0 0 t
 
   program_found : (source : SourceType) (n : Note) (now below rest left : Forest)
-      → (Among e (bindings_among (collected false (inside outermost 0 (kind.Program source) now) 0 1 now)) → Found (collected false (inside outermost 0 (kind.Program source) below) 0 1 below))
-      → (Among e (bindings_among (collected false (λ at. outermost) 1 (0 + scope_count (node (kind.Program source) n now nothing)) left)) → Found (collected false (λ at. outermost) 1 (0 + scope_count (node (kind.Program source) n below nothing)) rest))
-      → Among e (bindings_among (collected_exports (node (kind.Program source) n now left))) → Found (collected_exports (node (kind.Program source) n below rest))
+      → (Among e (bindings_among (collected false (inside outermost 0 (kind.Program source) now) 0 1 now)) → Found e top (collected false (inside outermost 0 (kind.Program source) below) 0 1 below))
+      → (Among e (bindings_among (collected false (λ at. outermost) 1 (0 + scope_count (node (kind.Program source) n now nothing)) left)) → Found e top (collected false (λ at. outermost) 1 (0 + scope_count (node (kind.Program source) n below nothing)) rest))
+      → Among e (bindings_among (collected_exports (node (kind.Program source) n now left))) → Found e top (collected_exports (node (kind.Program source) n below rest))
   program_found source n now below rest left f g h =
-      at_node false outermost outermost ahead_outermost n (kind.Program source) now below (collected false (inside outermost 0 (kind.Program source) now) 0 1 now)
+      at_node e top false outermost outermost ahead_outermost n (kind.Program source) now below (collected false (inside outermost 0 (kind.Program source) now) 0 1 now)
       (collected false (λ at. outermost) 1 (0 + scope_count (node (kind.Program source) n now nothing)) left) (collected false (inside outermost 0 (kind.Program source) below) 0 1 below)
       (collected false (λ at. outermost) 1 (0 + scope_count (node (kind.Program source) n below nothing)) rest) f g h
 
   covers_program : (source : SourceType) (now below : Forest) → Covers false (inside outermost 0 (kind.Program source) now) (inside outermost 0 (kind.Program source) below)
   covers_program source now below i j f = record { variables = λ h. refl; block = λ h. refl; declaring = λ h. refl }
 
-  root_found : (listed : Bool) (t u : Forest) → Cuts listed t u → listed ≡ false → is_program t ≡ true → Among e (bindings_among (collected_exports u)) → Found (collected_exports t)
+  root_found : (listed : Bool) (t u : Forest) → Cuts listed t u → listed ≡ false → is_program t ≡ true → Among e (bindings_among (collected_exports u)) → Found e top (collected_exports t)
   root_found listed t u (leaves k n below rest plain) l is h = absurd (true≢false l)
   root_found listed t u (empties r n m below rest) l is h = never is
   root_found listed t u (empties_idle r k n m below rest idle) l is h = never (idle_kinds (λ z. false ≡ is_program (node z n below rest)) refl refl refl refl refl (λ label. refl) k idle ∙ is)
@@ -456,18 +558,19 @@ module _ (e : BindingSite) (top : e.layer.scope ≡ 0) where
   root_found listed t u (states r how x k n m l j i o b rest none) q is h = never is
   root_found listed t u (alternate (kind.Program source) l n m o below b) z is h =
       program_found source n below below (node l m b (node kind.EmptyStatement o nothing nothing)) (node l m b (absent nothing))
-      (λ g. row_found false false below (inside outermost 0 (kind.Program source) below) (inside outermost 0 (kind.Program source) below) 0 0 1 1 (Prim.omega arith) (covers_program source below below) (λ l. refl) g)
-      (λ g. last_found false l m o b (λ at. outermost) (λ at. outermost) 1 1 (0 + scope_count (node (kind.Program source) n below nothing)) (0 + scope_count (node (kind.Program source) n below nothing)) (Prim.omega arith) (λ i j f. ahead_outermost) refl g) h
+      (λ g. row_found e top false false below (inside outermost 0 (kind.Program source) below) (inside outermost 0 (kind.Program source) below) 0 0 1 1 (Prim.omega arith) (covers_program source below below) (λ l. refl) g)
+      (λ g. last_found e top false l m o b (λ at. outermost) (λ at. outermost) 1 1 (0 + scope_count (node (kind.Program source) n below nothing)) (0 + scope_count (node (kind.Program source) n below nothing)) (Prim.omega arith) (λ i j f. ahead_outermost) refl g) h
   root_found listed t u (alternate k l n m o below b) z is h = never is
   root_found listed t u (parts r k x m n b v w rest gives unasked) l is h = never (sym (no_program k m (joined v (node x n b w)) rest gives) ∙ is)
   root_found listed t u (rebuilds r k x n m a b rest made) l is h = never (sym (part_no_program k n a rest made.old_unasked) ∙ is)
+  root_found listed t u (names_left r k n m a b rest made) l is h = never (sym (holds_no_program k n a rest made.holds) ∙ is)
   root_found listed t u (cut_inside r (kind.Program source) n below now rest called x) l is h =
       program_found source n now below rest rest (λ g. cuts_found false false below now x (inside outermost 0 (kind.Program source) now) (inside outermost 0 (kind.Program source) below) 0 0 1 1 (Prim.omega arith) (covers_program source now below) (λ l. refl) g)
-      (λ g. row_found false false rest (λ at. outermost) (λ at. outermost) 1 1 (0 + scope_count (node (kind.Program source) n now nothing)) (0 + scope_count (node (kind.Program source) n below nothing)) (Prim.omega arith) (λ i j f. ahead_outermost) (λ l. refl) g) h
+      (λ g. row_found e top false false rest (λ at. outermost) (λ at. outermost) 1 1 (0 + scope_count (node (kind.Program source) n now nothing)) (0 + scope_count (node (kind.Program source) n below nothing)) (Prim.omega arith) (λ i j f. ahead_outermost) (λ l. refl) g) h
   root_found listed t u (cut_inside r k n below now rest called x) l is h = never is
   root_found listed t u (behind r (kind.Program source) n below rest now x) l is h =
       program_found source n below below rest now
-      (λ g. row_found false false below (inside outermost 0 (kind.Program source) below) (inside outermost 0 (kind.Program source) below) 0 0 1 1 (Prim.omega arith) (covers_program source below below) (λ l. refl) g)
+      (λ g. row_found e top false false below (inside outermost 0 (kind.Program source) below) (inside outermost 0 (kind.Program source) below) 0 0 1 1 (Prim.omega arith) (covers_program source below below) (λ l. refl) g)
       (λ g. cuts_found false r rest now x (λ at. outermost) (λ at. outermost) 1 1 (0 + scope_count (node (kind.Program source) n below nothing)) (0 + scope_count (node (kind.Program source) n below nothing)) (Prim.omega arith) (λ i j f. ahead_outermost) (λ l. refl) g) h
   root_found listed t u (behind r k n below rest now x) l is h = never is
   root_found listed t u (behind_none r rest now x) l is h = never is

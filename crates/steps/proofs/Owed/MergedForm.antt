@@ -347,7 +347,7 @@ module _ (d : Context) where
   broken_row at p t = broken_in (λ i. here) at p t
 
   pub moved : (i j p q : ℕ) (t : Forest) → broken_row i p t ≡ [] → broken_row j q t ≡ []
-  moved i j p q t h = form_kept (itself in_items t) (λ i. here) (λ i. here) (λ i j e. refl) i j p q (λ e. absurd cc) h
+  moved i j p q t h = form_kept (itself in_items t) (λ i. here) (λ i. here) (λ i j e. refl) (λ i e. refl) i j p q (λ e. absurd cc) h
 
   pub one_moved : (i j p q : ℕ) (k : Kind) (n : Note) (b : Forest) → broken_at here k p b ++ broken_in (inside here k b) 0 (p + one_each k) b ≡ [] → broken_at here k q b ++ broken_in (inside here k b) 0 (q + one_each k) b ≡ []
   one_moved i j p q k n b h =

@@ -1,7 +1,7 @@
 -- Every case owes: a line each.
 use Rattle.js_syntax.specs.Node.{Tree}
 use Rattle.scope_laws.specs.Place.{Around}
-use Rattle.steps.specs.Allowed.Edits.{Leaves, empty_statement, empty_block, unused_function, unused_declarator, unused_declaration, unused_import, unreached, untaken, idle_statement, repeated_import, Becomes, silent_statement, known_conditional, known_side, known_if, dead_if, unused_operation, unused_list, indirect_choice, one_sided_choice, idle_parts, two_sides, unused_object, known_operation, unrun_value, idle_try, idle_body, empty_if, empty_alternate, value_stays}
+use Rattle.steps.specs.Allowed.Edits.{Leaves, empty_statement, empty_block, unused_function, unused_declarator, unused_declaration, unused_import, unreached, untaken, idle_statement, repeated_import, Becomes, silent_statement, known_conditional, known_side, known_if, dead_if, unused_operation, unused_list, indirect_choice, one_sided_choice, idle_parts, two_sides, unused_object, known_operation, unrun_value, idle_try, idle_body, empty_if, empty_alternate, kept_names, value_stays}
 use Rattle.steps.specs.Owed.Owed.{Leaving, Becoming}
 use Rattle.steps.proofs.Owed.ByPart.{by_part}
 use Rattle.steps.proofs.Owed.ByParts.{by_parts}
@@ -34,6 +34,7 @@ use Rattle.steps.proofs.Owed.IdleBody.{idle_body_owes}
 use Rattle.steps.proofs.Owed.EmptyIf.{empty_if_owes}
 use Rattle.steps.proofs.Owed.EmptyAlternate.{empty_alternate_owes}
 use Rattle.steps.proofs.Owed.ValueStays.{value_stays_owes}
+use Rattle.steps.proofs.Owed.KeptNames.{kept_names_owe}
 
 pub leaving : (a : Around) (x : Tree) → Leaves a x → Leaving a x
 leaving a x (empty_statement c) = empty_statement_owes a x c
@@ -67,3 +68,4 @@ becoming a x y (idle_body c) = idle_body_owes a x y c
 becoming a x y (empty_if c) = empty_if_owes a x y c
 becoming a x y (empty_alternate c) = empty_alternate_owes a x y c
 becoming a x y (value_stays c) = value_stays_owes a x y c
+becoming a x y (kept_names c) = kept_names_owe a x y c

@@ -81,18 +81,18 @@ module _ (x y : Tree) (core : all_core (forest_of x) ≡ true → all_core (fore
       both (is_core k) (all_core (plug a (Some y)) && all_core rest) (core_here k n (plug a (Some x)) rest h)
       (both (all_core (plug a (Some y))) (all_core rest) (core_kept a (core_below k n (plug a (Some x)) rest h)) (core_behind k n (plug a (Some x)) rest h))
 
--- nodes that start nothing, of which the first is no name, and that bind the same where that is read
-module _ (x y : Tree) (old_hoists : hoists_nothing x.kind ≡ true) (unread : is_read_name x.kind ≡ false) (hoists : hoists_nothing y.kind ≡ true)
+-- nodes of no keys, of which the first is no name, and that bind the same where that is read
+module _ (x y : Tree) (old_key : key_of x.kind ≡ None) (no_list : x.kind ≡ Kind.Properties → ⊥) (unread : is_read_name x.kind ≡ false) (key : key_of y.kind ≡ None)
     (binds : (is_statement x.kind ≡ true) ⊎ (names_of x.kind (bound_names x.below) ≡ names_of y.kind (bound_names y.below))) where
-  -- the keys of an object literal are of its properties, and no property starts nothing
+  -- the keys of an object literal are of its properties
   keys_of_row : (a : Around) → keys (plug a (Some x)) ≡ keys (plug a (Some y))
-  keys_of_row (first rest) = ap (λ k. k ∷ keys rest) (no_key x.kind old_hoists ∙ sym (no_key y.kind hoists))
+  keys_of_row (first rest) = ap (λ k. k ∷ keys rest) (old_key ∙ sym key)
   keys_of_row (behind k n below a) = ap (λ ks. key_of k ∷ ks) (keys_of_row a)
   keys_of_row (behind_none a) = refl
   keys_of_row (under k n a rest) = refl
 
   keys_of_object : (a : Around) → MadeBy Kind.ObjectExpression (plug a (Some x)) → keys (below_of (plug a (Some x))) ≡ keys (below_of (plug a (Some y)))
-  keys_of_object (first rest) made = absurd (no_properties x.kind (object_stands (plug (first rest) (Some x)) made).0.0 old_hoists)
+  keys_of_object (first rest) made = absurd (no_list (object_stands (plug (first rest) (Some x)) made).0.0)
   keys_of_object (behind k n below a) made = refl
   keys_of_object (behind_none a) made = refl
   keys_of_object (under k n a rest) made = keys_of_row a
@@ -104,22 +104,27 @@ module _ (x y : Tree) (old_hoists : hoists_nothing x.kind ≡ true) (unread : is
   exported_name exported (behind_none a) made = refl
   exported_name exported (under k n a rest) made = same_local exported k n (plug a (Some x)) (plug a (Some y)) rest rest
 
-  pub reads_same : (k : Kind) (a : Around) → (is_single k ≡ true → MadeBy k (plug a (Some x))) → ReadsSame k (plug a (Some x)) (plug a (Some y))
-  reads_same Kind.ObjectExpression a made = keys_of_object a (made refl)
-  reads_same (Kind.ExportSpecifier exported) a made = exported_name exported a (made refl)
-  reads_same (Kind.VariableDeclaration how) a made = elim binds [
+  pub reads_alike : (k : Kind) (a : Around) → (is_single k ≡ true → MadeBy k (plug a (Some x))) → ReadsSame k (plug a (Some x)) (plug a (Some y))
+  reads_alike Kind.ObjectExpression a made = keys_of_object a (made refl)
+  reads_alike (Kind.ExportSpecifier exported) a made = exported_name exported a (made refl)
+  reads_alike (Kind.VariableDeclaration how) a made = elim binds [
     | inl states ↦ variables_bind x states (λ a. plug a (Some y)) (λ k n b a. refl) (λ a. refl) (λ k n a r. refl) how a (made refl)
     | inr same ↦ plugged_bind x y same a
   ]
-  reads_same Kind.CatchClause a made = elim binds [
+  reads_alike Kind.CatchClause a made = elim binds [
     | inl states ↦ handler_binds x states (λ a. plug a (Some y)) (λ k n b a. refl) (λ a. refl) (λ k n a r. refl) a (made refl)
     | inr same ↦ plugged_first_binds x y same a
   ]
-  reads_same (Kind.Function how pure) a made = elim binds [
+  reads_alike (Kind.Function how pure) a made = elim binds [
     | inl states ↦ function_binds x states (λ a. plug a (Some y)) (λ k n b a. refl) (λ a. refl) (λ k n a r. refl) how pure a (made refl)
     | inr same ↦ plugged_parameters_bind x y same a
   ]
-  reads_same k a made = tt
+  reads_alike k a made = tt
+
+-- nodes that start nothing have no keys
+pub reads_same : (x y : Tree) → hoists_nothing x.kind ≡ true → is_read_name x.kind ≡ false → hoists_nothing y.kind ≡ true → (is_statement x.kind ≡ true) ⊎ (names_of x.kind (bound_names x.below) ≡ names_of y.kind (bound_names y.below))
+    → (k : Kind) (a : Around) → (is_single k ≡ true → MadeBy k (plug a (Some x))) → ReadsSame k (plug a (Some x)) (plug a (Some y))
+reads_same x y old_hoists unread hoists binds = reads_alike x y (no_key x.kind old_hoists) (λ e. no_properties x.kind e old_hoists) unread (no_key y.kind hoists) binds
 
 module _ (place : Around) (x y : Tree) (c : Comes place x y) where
   pub core_stays : (a : Around) → all_core (plug a (Some x)) ≡ true → all_core (plug a (Some y)) ≡ true

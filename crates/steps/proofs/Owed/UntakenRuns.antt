@@ -50,10 +50,10 @@ imports_inside source Kind.ImportDefaultSpecifier a l h = no_kind h
 imports_inside source Kind.ImportNamespaceSpecifier a l h = no_kind h
 imports_inside source k a l h = refl
 
-outside_behind : (k : Kind) (n : Note) (b : Forest) {t u : Forest} → Outside t u → Outside (node k n b t) (node k n b u)
+pub outside_behind : (k : Kind) (n : Note) (b : Forest) {t u : Forest} → Outside t u → Outside (node k n b t) (node k n b u)
 outside_behind k n b o = record { vars = ap (λ v. vars_of k b (var_names b) ++ v) o.vars; imports = λ source. ap (λ v. specifier_decls source k b (import_decls source b) ++ v) (o.imports source) }
 
-outside_under : (k : Kind) (n : Note) (rest : Forest) {t u : Forest} → runs_inside k ≡ true → Outside t u → Outside (node k n t rest) (node k n u rest)
+pub outside_under : (k : Kind) (n : Note) (rest : Forest) {t u : Forest} → runs_inside k ≡ true → Outside t u → Outside (node k n t rest) (node k n u rest)
 outside_under k n rest {t} {u} h o = record {
   vars = ap (λ v. v ++ var_names rest) (vars_inside k t (var_names t) h ∙ o.vars ∙ sym (vars_inside k u (var_names u) h));
   imports = λ source. ap (λ v. v ++ import_decls source rest) (imports_inside source k t (import_decls source t) h ∙ o.imports source ∙ sym (imports_inside source k u (import_decls source u) h));

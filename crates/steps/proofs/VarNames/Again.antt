@@ -142,7 +142,7 @@ one_name t h = of_kind t.kind t.below h
     of_kind (binding_name x) (node j m c r) h = absurd cc
     of_kind k b h = absurd cc
 
-their_names : (ts : List Tree) → are_names ts ≡ true → bound_names (row (map declarator_of ts)) ≡ texts ts
+pub their_names : (ts : List Tree) → are_names ts ≡ true → bound_names (row (map declarator_of ts)) ≡ texts ts
 their_names [] h = refl
 their_names (t ∷ ts) h = ap₂ (λ x y. x ++ y) (one_name t (first_of_both (is_bare_name t) (are_names ts) h)).0 (their_names ts (second_of_both (is_bare_name t) (are_names ts) h))
 

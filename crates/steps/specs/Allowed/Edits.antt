@@ -35,6 +35,7 @@ use Rattle.steps.specs.Allowed.IdleBody.{IdleBody}
 use Rattle.steps.specs.Allowed.EmptyIf.{EmptyIf}
 use Rattle.steps.specs.Allowed.EmptyAlternate.{EmptyAlternate}
 use Rattle.steps.specs.Allowed.ValueStays.{ValueStays}
+use Rattle.steps.specs.Allowed.KeptNames.{KeptNames}
 
 -- which items may leave the list in which they stand
 pub data Leaves (a : Around) (x : Tree) : Type 0 where
@@ -70,6 +71,7 @@ pub data Becomes (a : Around) (x y : Tree) : Type 0 where
   empty_if : EmptyIf x y → Becomes a x y
   empty_alternate : EmptyAlternate a x y → Becomes a x y
   value_stays : ValueStays a x y → Becomes a x y
+  kept_names : KeptNames a x y → Becomes a x y
 
 pub data Edit : (t u : Forest) → Type 0 where
   leaves : (a : Around) (x : Tree) → Leaves a x → Edit (plug a (Some x)) (without a)

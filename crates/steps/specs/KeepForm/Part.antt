@@ -1,14 +1,19 @@
 -- What may stand in a node's place, as far as the rules of form ask: a part of it, what is built of its parts, a statement of its test, or
 -- an `if` without its alternate.
-use Rattle.std.specs.Prelude.{◌≡◌, ℕ, List, [], Bool, true, false}
+use Rattle.std.specs.Prelude.{◌≡◌, ℕ, ◌+◌, List, [], ◌++◌, Bool, true, false}
 use Rattle.js_syntax.specs.declared.node_kind.NodeKind.{NodeKind as Kind}
 use Rattle.js_syntax.specs.declared.node_kind.NodeKind.TheVariants.{Program as program, Directive as directive, Statements as statements, FunctionBody as function_body, ExpressionStatement as expression_statement, EmptyStatement as empty_statement, DebuggerStatement as debugger_statement, BlockStatement as block_statement, StaticBlock as static_block, Cases as cases, SwitchCase as switch_case, SwitchStatement as switch_statement, LabeledStatement as labeled_statement, BreakStatement as break_statement, ContinueStatement as continue_statement, ReturnStatement as return_statement, ThrowStatement as throw_statement, TryStatement as try_statement, CatchClause as catch_clause, IfStatement as if_statement, WithStatement as with_statement, WhileStatement as while_statement, DoWhileStatement as do_while_statement, ForStatement as for_statement, ForInStatement as for_in_statement, ForOfStatement as for_of_statement, Function as function, Class as class, ClassBody as class_body, Members as members, MethodDefinition as method_definition, PropertyDefinition as property_definition, BindingName as binding_name, PrivateName as private_name, Super as super, ConditionalExpression as conditional_expression, UnaryExpression as unary_expression, BinaryExpression as binary_expression, LogicalExpression as logical_expression, SequenceExpression as sequence_expression, TemplateLiteral as template_literal, VariableDeclaration as variable_declaration, Declarators as declarators, VariableDeclarator as variable_declarator, Parameters as parameters, Properties as properties, Elements as elements, Specifiers as specifiers, BindingRest as binding_rest, TargetRest as target_rest, BindingObject as binding_object, BindingArray as binding_array, BindingProperty as binding_property, BindingDefault as binding_default, ImportDeclaration as import_declaration, ImportSpecifier as import_specifier, ImportDefaultSpecifier as import_default_specifier, ImportNamespaceSpecifier as import_namespace_specifier, ExportNamedDeclaration as export_named_declaration, ExportSpecifier as export_specifier, ForeignSpecifier as foreign_specifier, ExportDefaultDeclaration as export_default_declaration, ExportAllDeclaration as export_all_declaration}
 use Rattle.js_syntax.specs.Node.{Note, Forest, nothing, node, absent, joined, alone}
+use Rattle.js_syntax.specs.declared.kind.VariableKind.TheVariants as variable
 use Rattle.js_rebuilt.specs.Rebuilt.{Rebuilt}
+use Rattle.js_tree.specs.Count.{one_each}
+use Rattle.form_rules.specs.Context.{Context}
+use Rattle.form_rules.specs.Form.{broken_in}
 use Rattle.form_rules.specs.declared.sought.Sought.{Sought}
-use Rattle.form_rules.specs.Scope.{sought_below, declared}
-use Rattle.steps.specs.KeepForm.Row.{other}
+use Rattle.form_rules.specs.Scope.{sought_below, declared_here, declared}
+use Rattle.steps.specs.KeepForm.Row.{of_item, other}
 use Rattle.steps.specs.KeepForm.Layout.{is_laid_out}
+use Rattle.steps.specs.VarNames.Texts.{named, is_of_catch}
 
 -- Nodes in whose place a part of them may stand: what lies below one is in the context and the scope that the node is in.
 abbrev pub gives_way : Kind → Bool
@@ -140,6 +145,32 @@ pub record RebuildsTo (old : Kind) (n : Note) (below : Forest) (new : Kind) (m :
 -- what lies below a declaration of one name with a value
 abbrev pub declares_one : (m l j : Note) → List ℕ → (value : Forest) → Forest
 declares_one m l j x value = alone declarators m (alone variable_declarator l (node (binding_name x) j nothing value))
+
+-- a declaration by `var`
+abbrev pub a_var : Kind
+a_var = variable_declaration variable.Var
+
+-- statements of which a declaration of the names may be left that they declare by `var`
+abbrev pub leaves_names_of : Kind → Bool
+leaves_names_of (labeled_statement label) = true
+leaves_names_of if_statement = true
+leaves_names_of with_statement = true
+leaves_names_of while_statement = true
+leaves_names_of do_while_statement = true
+leaves_names_of for_statement = true
+leaves_names_of for_in_statement = true
+leaves_names_of for_of_statement = true
+leaves_names_of switch_statement = true
+leaves_names_of try_statement = true
+leaves_names_of k = false
+
+-- A declaration of names is left of a statement: it declares what that did, wherever it is sought, and breaks no rule where that broke none.
+pub record NamesStay (k : Kind) (n : Note) (a : Forest) (m : Note) (b : Forest) : Type 0 where
+  pub holds : leaves_names_of k ≡ true
+  pub declares : (s : Sought) (p q : ℕ) → is_of_catch s ≡ false
+      → named (declared_here s p k ++ declared (sought_below s k) (p + one_each k) a) ≡ named (declared_here s q a_var ++ declared (sought_below s a_var) (q + one_each a_var) b)
+  pub keeps : (f g : ℕ → Context) (i j p q : ℕ) → g j ≡ f i → (f i).is_head ≡ false → broken_in f i p (alone k n a) ≡ [] → broken_in g j q (alone a_var m b) ≡ []
+  pub laid_out : is_laid_out of_item b ≡ true
 
 -- statements whose test is an expression in the context that they are in
 abbrev pub is_tested : Kind → Bool

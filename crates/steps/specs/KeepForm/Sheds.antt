@@ -13,7 +13,7 @@ use Rattle.form_rules.specs.Context.{has_use_strict, is_loop}
 use Rattle.form_rules.specs.Scope.{Declared, sought_below, declared}
 use Rattle.form_rules.specs.Rules.{Exported, first_below, length_of, at_top, locals_among, is_exported, is_bare_name}
 pub use Rattle.steps.specs.KeepForm.Row.{Row, parts, items, of_item, of_declarators, of_head, of_import, of_specifiers, other, has_statements, row_below, may_leave, may_empty}
-use Rattle.steps.specs.KeepForm.Part.{is_statement, may_be_idle, asks_further, declares_one, Replaces}
+use Rattle.steps.specs.KeepForm.Part.{is_statement, may_be_idle, asks_further, declares_one, Replaces, a_var, NamesStay}
 
 -- whether a rule asks what lies below the nodes of a row
 abbrev pub asked_below : Row → Kind → Bool
@@ -95,3 +95,5 @@ pub data Sheds : Around → (t u : Forest) → Type 0 where
   -- a part of a node stands for it, an expression is rebuilt of its parts, or a statement comes to one of its test
   becomes : {w : Around} {k l : Kind} {n m : Note} {a b r s : Forest} → Replaces k n a l m b → may_give_way w.row w.is_asked k ≡ true → may_come_out w.is_deleted (alone l m b) ≡ true → Sheds w r s
       → Sheds w (node k n a r) (node l m b s)
+  -- of an item a declaration of the names is left that it declares by `var`
+  leaves_names : {w : Around} {k : Kind} {n m : Note} {a b r s : Forest} → w.row ≡ items → w.is_asked ≡ false → NamesStay k n a m b → Sheds w r s → Sheds w (node k n a r) (node a_var m b s)

@@ -1,5 +1,5 @@
 -- What the names of a tree are called.
-use Rattle.std.specs.Prelude.{List, [], ◌∷◌, ◌++◌, Bool, true, false, ◌||◌}
+use Rattle.std.specs.Prelude.{List, [], ◌∷◌, ◌++◌, Bool, true, false, ◌&&◌, ◌||◌}
 use Rattle.js_syntax.specs.declared.node_kind.NodeKind.{NodeKind as Kind}
 use Rattle.js_syntax.specs.declared.node_kind.NodeKind.TheVariants.{BindingName as binding_name}
 use Rattle.js_syntax.specs.Node.{Tree}
@@ -8,7 +8,7 @@ use Rattle.form_rules.specs.declared.sought.Sort.{Sort}
 use Rattle.form_rules.specs.declared.sought.Sought.{Sought}
 use Rattle.form_rules.specs.declared.sought.Sought.TheVariants.{CatchScope as catch_scope}
 use Rattle.form_rules.specs.Scope.{Declared}
-use Rattle.kept_names.specs.Kept.{is_var}
+use Rattle.kept_names.specs.Kept.{is_var, holds_statements}
 use Rattle.steps.specs.Allowed.Unreached.{only_runs}
 
 abbrev pub text_of : Kind → List Text
@@ -37,6 +37,6 @@ abbrev pub is_of_catch : Sought → Bool
 is_of_catch (catch_scope f) = true
 is_of_catch s = false
 
--- a statement that is no declaration, or one by `var`
+-- a statement in which others stand, or a declaration by `var`
 abbrev pub may_keep : Kind → Bool
-may_keep k = only_runs k || is_var k
+may_keep k = is_var k || (holds_statements k && only_runs k)
