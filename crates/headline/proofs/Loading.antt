@@ -1,5 +1,5 @@
 -- What edits leave of a program asks for the modules that the program asked for, in the same order.
-use Rattle.std.proofs.Common.{◌≡◌, ◌∙◌, ◌⊎◌, ℕ, List, [], ◌++◌, Bool, true, false, Some, inl, inr, refl, sym, ap, true≢false}
+use Rattle.std.proofs.Common.{◌≡◌, ◌∙◌, ◌⊎◌, ℕ, List, [], ◌++◌, Bool, true, false, Some, inl, inr, refl, sym, ap, subst, true≢false}
 use Rattle.js_syntax.specs.Class.{root}
 use Rattle.js_syntax.specs.declared.node_kind.NodeKind.{NodeKind as Kind}
 use Rattle.js_syntax.specs.Node.{Forest, Tree, Note, nothing, node, absent, bare}
@@ -10,13 +10,13 @@ use Rattle.min_pass.specs.Around.{entered as asked_below, outermost as asked_of_
 use Rattle.scope_laws.specs.Place.{Around, first, behind, behind_none, under, plug}
 use Rattle.scope_laws.specs.Lists.{without}
 use Rattle.steps.specs.Steps.{binds_import}
-use Rattle.steps.specs.KeepForm.Part.{gives_way, is_asked_for}
+use Rattle.steps.specs.KeepForm.Part.{gives_way, is_asked_for, leaves_names_of}
 use Rattle.steps.specs.Allowed.DeadIf.{nothing_is_run}
 use Rattle.steps.specs.Allowed.EmptyIf.{test_stays}
 use Rattle.steps.specs.Allowed.EmptyAlternate.{alternate_goes}
 use Rattle.steps.specs.Allowed.ValueStays.{value_is_stated}
 use Rattle.steps.specs.Allowed.IdleBody.{idle_body_empties}
-use Rattle.steps.specs.Allowed.Edits.{Leaves, empty_statement, empty_block, unused_function, unused_declarator, unused_declaration, unused_import, unreached, untaken, idle_statement, repeated_import, Becomes, silent_statement, known_conditional, known_side, known_if, idle_try, idle_body, empty_if, empty_alternate, dead_if, unused_operation, unused_list, indirect_choice, one_sided_choice, idle_parts, two_sides, unused_object, known_operation, unrun_value, Edit, leaves, becomes, Edits, no_edit, one_edit, merges, passes, value_stays}
+use Rattle.steps.specs.Allowed.Edits.{Leaves, empty_statement, empty_block, unused_function, unused_declarator, unused_declaration, unused_import, unreached, untaken, idle_statement, repeated_import, Becomes, silent_statement, known_conditional, known_side, known_if, idle_try, idle_body, empty_if, empty_alternate, dead_if, unused_operation, unused_list, indirect_choice, one_sided_choice, idle_parts, two_sides, unused_object, known_operation, unrun_value, kept_names, Edit, leaves, becomes, Edits, no_edit, one_edit, merges, passes, value_stays}
 use Rattle.steps.specs.Allowed.EmptyBlock.{holds_nothing, empty_block_leaves}
 use Rattle.steps.specs.Allowed.EmptyStatement.{empty_statement_leaves}
 use Rattle.steps.specs.Allowed.IdleStatement.{idle_leaves}
@@ -54,6 +54,7 @@ use Rattle.steps.proofs.Owed.TwoSides.{two_sides_owes}
 use Rattle.steps.proofs.Owed.UnusedList.{unused_list_owes}
 use Rattle.steps.proofs.Owed.UnusedObject.{unused_object_owes}
 use Rattle.steps.proofs.Owed.UnusedOperation.{unused_operation_owes}
+use Rattle.steps.proofs.VarNames.Left.{names_left}
 use Rattle.headline.specs.Lasting.{items_of, first_items, program_items, own_items, loaded}
 
 -- ---- kinds that ask for no module, and hold nothing that does
@@ -133,6 +134,14 @@ unasked_ask (Kind.ExportNamedDeclaration source) h = sym h
 unasked_ask (Kind.ExportAllDeclaration name source) h = sym h
 unasked_ask k h = refl
 
+leaving_ask : (k : Kind) → leaves_names_of k ≡ true → asks_nothing k ≡ true
+leaving_ask (Kind.Program source) h = h
+leaving_ask Kind.Statements h = h
+leaving_ask (Kind.ImportDeclaration source) h = h
+leaving_ask (Kind.ExportNamedDeclaration source) h = h
+leaving_ask (Kind.ExportAllDeclaration name source) h = h
+leaving_ask k h = refl
+
 -- ---- each case
 
 -- what leaves a list asks for nothing, or for what is asked for before it
@@ -177,6 +186,7 @@ becomes_asks a x y (two_sides c) fits = parts_ask a x y (two_sides_owes a x y c)
 becomes_asks a x y (unused_object c) fits = parts_ask a x y (unused_object_owes a x y c) fits
 becomes_asks a x y (known_operation c) fits = parts_ask a x y (known_operation_owes a x y c) fits
 becomes_asks a x y (unrun_value (value_never_given n z given unrun drops)) fits = (dropped_ask x.kind drops, refl)
+becomes_asks a x y (kept_names c) fits = let left = names_left a x y c fits in (leaving_ask x.kind left.1.holds, subst (λ k. asks_nothing k ≡ true) (sym left.0) refl)
 
 -- ---- a node becomes another
 

@@ -22,7 +22,7 @@ use Rattle.steps.specs.Steps.{binds_import}
 use Rattle.steps.proofs.Fit.Modules.{fits_program, ends}
 use Rattle.steps.specs.Fit.Sensible.{is_program}
 use Rattle.steps.specs.KeepForm.Part.{gives_way, is_asked_for, StandsFor}
-use Rattle.steps.specs.VarNames.Texts.{is_of_catch}
+use Rattle.steps.specs.VarNames.Texts.{Named, named, is_of_catch}
 use Rattle.steps.proofs.KeepForm.Asked.{no_name_here, no_catch_below, sought_alike}
 use Rattle.steps.proofs.KeepForm.ShedNames.{none_declared}
 use Rattle.steps.specs.Allowed.Branches.{declares_none}
@@ -31,11 +31,12 @@ use Rattle.steps.specs.Allowed.EmptyIf.{test_stays}
 use Rattle.steps.specs.Allowed.EmptyAlternate.{alternate_goes}
 use Rattle.steps.specs.Allowed.ValueStays.{value_is_stated}
 use Rattle.steps.specs.Allowed.IdleBody.{idle_body_empties}
-use Rattle.steps.specs.Allowed.Edits.{Leaves, empty_statement, empty_block, unused_function, unused_declarator, unused_declaration, unused_import, unreached, untaken, idle_statement, repeated_import, Becomes, silent_statement, known_conditional, known_side, known_if, idle_try, idle_body, empty_if, empty_alternate, dead_if, unused_operation, unused_list, indirect_choice, one_sided_choice, idle_parts, two_sides, unused_object, known_operation, unrun_value, Edit, leaves, becomes, Edits, no_edit, one_edit, merges, passes, value_stays}
+use Rattle.steps.specs.Allowed.Edits.{Leaves, empty_statement, empty_block, unused_function, unused_declarator, unused_declaration, unused_import, unreached, untaken, idle_statement, repeated_import, Becomes, silent_statement, known_conditional, known_side, known_if, idle_try, idle_body, empty_if, empty_alternate, dead_if, unused_operation, unused_list, indirect_choice, one_sided_choice, idle_parts, two_sides, unused_object, known_operation, unrun_value, kept_names, Edit, leaves, becomes, Edits, no_edit, one_edit, merges, passes, value_stays}
 use Rattle.steps.specs.Allowed.EmptyBlock.{empty_block_leaves}
 use Rattle.steps.specs.Allowed.EmptyStatement.{empty_statement_leaves}
 use Rattle.steps.specs.Allowed.Exposure.{Exposure, shares, exposed_inside, exposed_of, exposed_at, exposure, is_script, evaluates_somewhere, function_is_exposed}
 use Rattle.steps.specs.Allowed.IdleStatement.{idle_leaves}
+use Rattle.steps.specs.Allowed.KeptNames.{KeptNames, names_stay}
 use Rattle.steps.specs.Allowed.RepeatedImport.{import_of, RepeatedImport, repeated_import_leaves}
 use Rattle.steps.specs.Allowed.SilentStatement.{silent_statement_empties}
 use Rattle.steps.specs.Allowed.Unreached.{never_runs}
@@ -55,6 +56,7 @@ use Rattle.steps.proofs.Owed.FitsEdits.{edit_fits, renoted_fits}
 use Rattle.steps.proofs.Owed.Focus.{something}
 use Rattle.steps.proofs.Owed.IndirectChoice.{indirect_choice_owes}
 use Rattle.steps.proofs.Owed.IdleParts.{idle_parts_owes}
+use Rattle.steps.proofs.Owed.KeptNames.{stands_there}
 use Rattle.steps.proofs.Owed.KnownConditional.{known_conditional_owes}
 use Rattle.steps.proofs.Owed.EmptyIf.{empty_declares}
 use Rattle.steps.proofs.Owed.IdleTry.{idle_try_owes}
@@ -74,6 +76,8 @@ use Rattle.steps.proofs.Marked.Cuts.{edit_cuts}
 use Rattle.steps.proofs.Marked.Merged.{same_evaluates}
 use Rattle.steps.proofs.Marked.Passed as passed
 use Rattle.steps.proofs.Marked.Exposing.{below_stays}
+use Rattle.steps.proofs.VarNames.Alike.{found_alike}
+use Rattle.steps.proofs.VarNames.Place.{keeps_kind}
 use Rattle.headline.specs.Lasting.{names_in, declared_at_root, root_names, HasSharedNames}
 use Rattle.headline.proofs.Loading.{asks_nothing, leaves_asks, becomes_asks}
 
@@ -450,6 +454,25 @@ part_named a x y owed fits = λ s calm kept. part_names s calm x.kind y.kind x.n
 parts_named : (a : Around) (x y : Tree) → ByParts a x y → Fits root (plug a (Some x)) → SameNames a x y
 parts_named a x y owed fits = λ s calm kept. let old = owed.fits_expression fits in of_expression s (forest_of y) (taken_as (owed.takes fits) expression refl old) ∙ sym (of_expression s (forest_of x) old)
 
+-- of names a declaration is left that declares them
+only_names : List Named → List (List ℕ)
+only_names [] = []
+only_names (d ∷ ds) = d.name ∷ only_names ds
+
+names_alone : (ds : List Declared) → names_in ds ≡ only_names (named ds)
+names_alone [] = refl
+names_alone (d ∷ ds) = ap (λ l. d.name ∷ l) (names_alone ds)
+
+kept_named : (a : Around) (x y : Tree) → KeptNames a x y → Fits root (plug a (Some x)) → SameNames x y
+kept_named a _ _ (names_stay x y item untaken leaves alone_vars plain is) fits = λ s calm.
+    let old = declared s 0 (forest_of x) in
+    let new = declared s 0 (forest_of y) in
+    sym (names_anywhere s 0 (forest_of y))
+    ∙ names_alone new
+    ∙ ap only_names (sym (found_alike x y (keeps_kind x.kind leaves) (stands_there a x y item untaken leaves alone_vars is fits) is s 0 0 calm))
+    ∙ sym (names_alone old)
+    ∙ names_anywhere s 0 (forest_of x)
+
 becomes_named : (a : Around) (x y : Tree) → Becomes a x y → Fits root (plug a (Some x)) → SameNames a x y
 becomes_named a x y (silent_statement (silent_statement_empties n m l k held silent)) fits = λ s calm kept. empty_named s m ∙ sym (statement_named s n x.below)
 becomes_named a x y (known_conditional c) fits = part_named a x y (known_conditional_owes a x y c) fits
@@ -481,6 +504,7 @@ becomes_named a x y (idle_parts c) fits = parts_named a x y (idle_parts_owes a x
 becomes_named a x y (two_sides c) fits = parts_named a x y (two_sides_owes a x y c) fits
 becomes_named a x y (unused_object c) fits = parts_named a x y (unused_object_owes a x y c) fits
 becomes_named a x y (known_operation c) fits = parts_named a x y (known_operation_owes a x y c) fits
+becomes_named a x y (kept_names c) fits = kept_named a x y c fits
 becomes_named a x y (unrun_value (value_never_given n z given unrun drops)) fits = λ s calm kept. of_expression s (forest_of y) (new_fits a n x given unrun drops) ∙ sym (of_expression s (forest_of x) (old_fits a n x given unrun drops fits))
 
 -- ---- a place in a program that fits the table

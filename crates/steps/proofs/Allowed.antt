@@ -5,3 +5,4 @@ pub mod TriedMerged
 pub mod TriedPassed
 pub mod TriedValues
 pub mod TriedCalls
+pub mod TriedNames

@@ -16,3 +16,4 @@ pub mod Table
 pub mod Runs
 pub mod Place
 pub mod Left
+pub mod Counted

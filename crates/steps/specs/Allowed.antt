@@ -48,3 +48,4 @@ pub mod SilentCall
 pub mod ValueRows
 pub mod SilentCallRows
 pub mod KeptNames
+pub mod KeptNamesRows

@@ -1,5 +1,6 @@
 pub mod Along
 pub mod Picked
+pub mod KeptNames
 pub mod Smaller
 pub mod StillRead
 pub mod Computed

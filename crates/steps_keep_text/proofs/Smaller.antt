@@ -18,6 +18,7 @@ use Rattle.steps.proofs.Owed.MergedRows.{AreNames, no_names, a_name, may, merged
 use Rattle.steps.proofs.Marked.Cuts as cuts
 use Rattle.steps.proofs.Marked.Cuts.{Cuts}
 use Rattle.steps_keep_text.proofs.Along.{IsShed}
+use Rattle.steps_keep_text.proofs.KeptNames.{names_weigh_less, names_no_deeper, one_statement}
 use Rattle.steps_keep_text.proofs.Picked.{IsSparing, picked_counts}
 
 -- ---- counts, by which what edits build counts no more than what it is built of
@@ -32,6 +33,7 @@ module _ (counts : Kind → ℕ) (spares : IsSparing counts) where
   cut_lighter listed t u (cuts.alternate y l i j o d b) = Prim.omega arith
   cut_lighter listed t u (cuts.parts i k l n m b v w rest gives unasked) = Prim.omega (arith, total_joined counts v (node l m b w))
   cut_lighter listed t u (cuts.rebuilds i k l n m a b rest made) = Prim.omega (arith, picked_counts counts spares made.picks)
+  cut_lighter listed t u (cuts.names_left i k n m a b rest left) = Prim.omega (arith, names_weigh_less counts k n m a b left)
   cut_lighter listed t u (cuts.inside l k n below now rest called c) = Prim.omega (arith, cut_lighter (is_list k) below now c)
   cut_lighter listed t u (cuts.behind l k n below rest now c) = Prim.omega (arith, cut_lighter l rest now c)
   cut_lighter listed t u (cuts.behind_none l rest now c) = cut_lighter l rest now c
@@ -77,6 +79,7 @@ cut_levels more at listed t u (cuts.states z how x k n m l j i o b rest none) le
 cut_levels more at listed t u (cuts.alternate y l i j o d b) level = Prim.omega arith
 cut_levels more at listed t u (cuts.parts i k l n m b v w rest gives unasked) level = Prim.omega (arith, part_levels (lower k) 0 v l m b w)
 cut_levels more at listed t u (cuts.rebuilds i k l n m a b rest made) level = Prim.omega (arith, made.no_deeper)
+cut_levels more at listed t u (cuts.names_left i k n m a b rest left) level = Prim.omega (arith, names_no_deeper k n m a b left, one_statement k left.holds)
 cut_levels more at listed t u (cuts.inside l k n below now rest called c) level = Prim.omega (arith, cut_levels (lower k) 0 (is_list k) below now c (list_level k))
 cut_levels more at listed t u (cuts.behind l k n below rest now c) level = Prim.omega (arith, cut_levels more (suc at) l rest now c level)
 cut_levels more at listed t u (cuts.behind_none l rest now c) level = cut_levels more (suc at) l rest now c level

@@ -15,8 +15,8 @@ use Rattle.steps.specs.Owed.Kept.{is_program}
 use Rattle.steps.proofs.Owed.FitsEdits.{edit_fits, tree_edits_fit}
 use Rattle.steps.specs.Marked.Flags.{first_mark}
 use Rattle.steps.proofs.KeepForm.Asked.{idle_kinds, tested_kinds}
-use Rattle.steps.proofs.Marked.Cuts.{Cuts, leaves, empties, empties_idle, tests, states, alternate, parts, rebuilds, inside, behind, behind_none, edit_cuts}
-use Rattle.steps.proofs.Marked.Exposing.{part_no_program}
+use Rattle.steps.proofs.Marked.Cuts.{Cuts, leaves, empties, empties_idle, tests, states, alternate, parts, rebuilds, names_left, inside, behind, behind_none, edit_cuts}
+use Rattle.steps.proofs.Marked.Exposing.{part_no_program, holds_no_program}
 use Rattle.steps.proofs.Marked.Telling.{no_program, edits_told}
 use Rattle.steps.proofs.Marked.Tables.{edits_keep_marked}
 use Rattle.steps.proofs.Marked.Unexporting.{edits_export}
@@ -46,6 +46,7 @@ root_cut listed t u (alternate y l i j o d b) m e =
     record { script = script_first y i i d d (node l j b (absent nothing)) (node l j b (node Kind.EmptyStatement o nothing nothing)); mark = refl }
 root_cut listed t u (parts r k x i j b v w rest gives unasked) l e = never (sym (no_program k i (joined v (node x j b w)) rest gives) ∙ e)
 root_cut listed t u (rebuilds r k x n m a b rest made) l e = never (sym (part_no_program k n a rest made.old_unasked) ∙ e)
+root_cut listed t u (names_left r k n m a b rest made) l e = never (sym (holds_no_program k n a rest made.holds) ∙ e)
 root_cut listed t u (inside r k n below now rest called h) l e = record { script = script_first k n n now below rest rest; mark = refl }
 root_cut listed t u (behind r k n below rest now h) l e = record { script = script_first k n n below below now rest; mark = refl }
 root_cut listed t u (behind_none r rest now h) l e = never e

@@ -40,7 +40,7 @@ use Rattle.steps.specs.Allowed.EmptyIf.{are_empty, test_stays}
 use Rattle.steps.specs.Allowed.EmptyAlternate.{alternate_goes}
 use Rattle.steps.specs.Allowed.KnownIf.{an_if}
 use Rattle.steps.specs.Allowed.IdleBody.{idle_body_empties}
-use Rattle.steps.specs.Allowed.Edits.{Leaves, empty_statement, empty_block, unused_function, unused_declarator, unused_declaration, unused_import, unreached, untaken, idle_statement, repeated_import, Becomes, silent_statement, known_conditional, known_side, known_if, dead_if, unused_operation, unused_list, indirect_choice, one_sided_choice, idle_parts, two_sides, unused_object, known_operation, unrun_value, idle_try, idle_body, empty_if, empty_alternate, Edit, leaves, becomes, TreeEdits, no_tree_edit, one_tree_edit, merges, passes, value_stays}
+use Rattle.steps.specs.Allowed.Edits.{Leaves, empty_statement, empty_block, unused_function, unused_declarator, unused_declaration, unused_import, unreached, untaken, idle_statement, repeated_import, Becomes, silent_statement, known_conditional, known_side, known_if, dead_if, unused_operation, unused_list, indirect_choice, one_sided_choice, idle_parts, two_sides, unused_object, known_operation, unrun_value, idle_try, idle_body, empty_if, empty_alternate, kept_names, Edit, leaves, becomes, TreeEdits, no_tree_edit, one_tree_edit, merges, passes, value_stays}
 use Rattle.steps.specs.Owed.Kept.{is_program}
 use Rattle.steps.specs.Owed.Owed.{ByPart, ByParts}
 use Rattle.steps.specs.Owed.Part.{DeclaresNothing}
@@ -73,11 +73,13 @@ use Rattle.steps.proofs.Owed.Owed.{leaving}
 use Rattle.steps.proofs.Owed.TableKept as tables
 use Rattle.steps.proofs.Owed.Unseen.{both_at, enclosed_there, enclosed_alone_there}
 use Rattle.steps.specs.Marked.Exports.{IsMarkedAmong}
-use Rattle.steps.proofs.Marked.Exposing.{part_no_program}
+use Rattle.steps.proofs.Marked.Exposing.{part_no_program, holds_no_program}
 use Rattle.steps.proofs.Marked.Telling.{no_program}
 use Rattle.steps.proofs.Marked.Unexporting.{exports_collected, collected_declared, edits_export}
+use Rattle.steps.proofs.VarNames.Left.{names_left}
 use Rattle.rules.specs.DeadCode.Quiet.{IsExported}
 use Rattle.rules.proofs.Export.Going.{Gone, empty_gone, import_gone, statement_gone, function_gone, declarator_gone, declaration_gone, stated_gone}
+use Rattle.rules.proofs.Export.Inner.{names_stay}
 use Rattle.rules.proofs.Export.Staying.{made, made_without, made_plug, LeavesLists, Stays, whole, part_stays, undeclared_stays, alternate_stays}
 use Rattle.steps.specs.Allowed.ValueStays.{value_is_stated}
 use Rattle.steps.proofs.Owed.ValueStays.{value_fits}
@@ -247,6 +249,12 @@ module _ (e : BindingSite) (top : e.layer.scope ≡ 0) where
   changed a x y (unused_object c) fits h = parts_settled a x y (unused_object_owes a x y c) fits h
   changed a x y (known_operation c) fits h = parts_settled a x y (known_operation_owes a x y c) fits h
   changed a x y (idle_try c) fits h = part_settled a x y (idle_try_owes a x y c) fits h
+  changed a x y (kept_names c) fits h =
+      let names = names_left a x y c fits in
+      subst ExportedBy (made_plug a y)
+      (settled a x (Some y) Anything fits (λ rest. holds_no_program x.kind x.note x.below rest names.1.holds) (λ f. absurd (true≢false f)) (anywhere (Some x) false (λ at. outermost) 0 0 a)
+      (λ w c next some any. subst (λ k. Stays e x (Some (record { kind = k; note = y.note; below = y.below })) c next) (sym names.0)
+      (names_stay e top x.kind x.note y.note x.below y.below names.1 c next some)) h)
   changed a x y (unrun_value (value_never_given n _ given unrun drops)) fits h =
       undeclared_settled a x y (dropped x.kind drops).unasked (old_fits a n x given unrun drops fits) fits h
 

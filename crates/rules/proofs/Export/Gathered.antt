@@ -24,7 +24,7 @@ gathered all aims at (node k n below rest) = (if all then named (aims at) n k el
 
 -- ---- all of a row
 
-all_gathered : (aims : ℕ → Aims) (at : ℕ) (t : Forest) → gathered true aims at t ≡ hoisted aims at t
+pub all_gathered : (aims : ℕ → Aims) (at : ℕ) (t : Forest) → gathered true aims at t ≡ hoisted aims at t
 all_gathered aims at nothing = refl
 all_gathered aims at (absent rest) = all_gathered aims (suc at) rest
 all_gathered aims at (node k n below rest) = ap₂ (λ ds es. named (aims at) n k ++ ds ++ es) (all_gathered (aims_inside no_part (aims at) k below) 0 below) (all_gathered aims (suc at) rest)

@@ -18,7 +18,7 @@ use Rattle.steps.specs.Marked.Flags.{is_within, Stand, stand_inside, first_mark,
 use Rattle.steps.specs.Allowed.MergedImports.{MergedImports, imports_merge}
 use Rattle.steps.specs.Allowed.PassedExports.{PassedExports, exports_pass}
 use Rattle.steps.proofs.Marked.Cuts.{Cuts, edit_cuts}
-use Rattle.steps.proofs.Marked.Exposing.{Only, never, kept, part_no_program}
+use Rattle.steps.proofs.Marked.Exposing.{Only, never, kept, part_no_program, holds_no_program}
 use Rattle.steps.proofs.Marked.Telling.{no_program, operation_inside}
 use Rattle.min_context.specs.Edited.{evals}
 use Rattle.rules.specs.DeadCode.Quiet.{ToldOnly}
@@ -26,7 +26,7 @@ use Rattle.rules.specs.Told.Places.{EachPlace}
 use Rattle.rules.specs.Told.Parts.{FlagsTellOnly, TellsCallsOnly, TellsNamesOnly, CallsToldOnly, NamesToldOnly}
 use Rattle.rules.proofs.Told.Standing.{strict_code, is_block, shares_code, exposed_in_scope, inside_reads, scope_evaluates, scope_strict, scope_sloppy, scope_names, scope_variables, scope_outside, variables_within}
 use Rattle.steps.proofs.KeepForm.Asked.{idle_kinds, tested_kinds}
-use Rattle.rules.proofs.Told.Trims.{Alike, Trims, leaves, empties, empties_idle, tests, states, alternate, parts, rebuilds, inside, behind, behind_none, fewer, trims}
+use Rattle.rules.proofs.Told.Trims.{Alike, Trims, leaves, empties, empties_idle, tests, states, alternate, parts, rebuilds, names_left, inside, behind, behind_none, fewer, trims}
 use Rattle.rules.proofs.Told.Merged.{merged_throughout, merged_evaluates}
 use Rattle.rules.proofs.Told.Passed.{passed_throughout, passed_evaluates}
 use Rattle.rules.proofs.Told.Walking.{trimmed_stays}
@@ -144,6 +144,22 @@ module _ (all : Bool) where
       variables = f.variables ∙ sym (ap (λ (b : Bool). if b then n.id else p.variables) (variables_within k below at ∙ ap (λ b. b && not (is_block k)) w));
     }
 
+  module _ (q p : Stand) (k : Kind) (n : Note) (now : Forest) (at : ℕ) (w : is_within k now at ≡ false) (f : Stays all q p) where
+    reads_into : (read : Exposure → Bool) → ((e : Exposure) (shared : Bool) → read (declaring e shared) ≡ read e) → read (stand_inside q k n now at).exposure ≡ read q.exposure
+    reads_into read undeclared = inside_reads read undeclared q.exposure k now at ∙ ap (λ v. if v then read (exposed_in_scope q.exposure k now) else read q.exposure) w
+
+    stays_into : Stays all (stand_inside q k n now at) p
+    stays_into = record {
+      outside = reads_into (λ e. e.outside) (λ e b. refl) ∙ f.outside;
+      strict = reads_into (λ e. e.strict) (λ e b. refl) ∙ f.strict;
+      names = reads_into (λ e. e.names_shared) (λ e b. refl) ∙ f.names;
+      variable_names = reads_into (λ e. e.variables_shared) (λ e b. refl) ∙ f.variable_names;
+      sloppy = reads_into (λ e. e.in_sloppy_block) (λ e b. refl) ∙ f.sloppy;
+      calls = λ e g. reads_into (λ x. x.evaluates) (λ x b. refl) ∙ f.calls e g;
+      scope = ap (λ (b : Bool). if b then n.id else q.scope) w ∙ f.scope;
+      variables = ap (λ (b : Bool). if b then n.id else q.variables) (variables_within k now at ∙ ap (λ b. b && not (is_block k)) w) ∙ f.variables;
+    }
+
 names_stay : (s : Scoping) (script all : Bool) (q p : Stand) → Stays all q p → TellsNamesOnly s script p → TellsNamesOnly s script q
 names_stay s script all q p f h = record {
   sloppy = λ n e g. f.sloppy ∙ h.sloppy n (sym f.scope ∙ e) g;
@@ -171,6 +187,7 @@ root_stays all listed t u (alternate (kind.Program source) l i j o d b) m e = re
 root_stays all listed t u (alternate y l i j o d b) m e = never e
 root_stays all listed t u (parts r k x i j b v w rest gives) l e = never (sym (no_program k i (joined v (node x j b w)) rest gives) ∙ e)
 root_stays all listed t u (rebuilds r k x n m a b rest made unasked) l e = never (sym (part_no_program k n a rest unasked) ∙ e)
+root_stays all listed t u (names_left r k n m a b rest made) l e = never (sym (holds_no_program k n a rest made.holds) ∙ e)
 root_stays all listed t u (inside r (kind.Program source) n below now rest a h) l e = record { script = refl; mark = refl; calls = a.calls }
 root_stays all listed t u (inside r k n below now rest a h) l e = never e
 root_stays all listed t u (behind r (kind.Program source) n below rest now h) l e = record { script = refl; mark = refl; calls = λ g. kept }
@@ -190,7 +207,7 @@ module _ (all : Bool) (t u : Forest) (c : Cuts false t u) (fits : Fits root t) (
 
   throughout_stays : (P : Stand → Type 0) → ((q p : Stand) → Stays all q p → P p → P q) → Throughout P (stands_of t) 0 t → Throughout P (stands_of u) 0 u
   throughout_stays P keeps h =
-      trimmed_stays all stand_inside (λ p k n below. P p) (Stays all) (stays_inside all) (stays_through all) (λ q p k n now below a f x. keeps q p f x) (λ p k l n m below now none x. x) operation_inside (λ p n below at. refl) false t u edit_trims (stands_of u) (stands_of t) 0 0
+      trimmed_stays all stand_inside (λ p k n below. P p) (Stays all) (stays_inside all) (stays_through all) (stays_into all) (λ q p k n now below a f x. keeps q p f x) (λ p k l n m below now none x. x) operation_inside (λ p n below at. refl) false t u edit_trims (stands_of u) (stands_of t) 0 0
       (λ i j f. stays_at_root all t u edit_root i j (f refl)) (λ l. refl) h
 
 same_script : (t u : Forest) → MergedImports t u → is_script u ≡ is_script t

@@ -1,13 +1,16 @@
 -- The scopes of a table stand in one another as the nodes of a program do: of a new table, and behind edits.
-use Rattle.std.proofs.Common.{◌≡◌, ◌∙◌, ◌⊎◌, inl, inr, ◌≤◌, ◌<◌, ◌+◌, ℕ, suc, [], Bool, true, false, if◌then◌else◌, cond, nat_eq, Option, Some, None, refl, sym, ap, ap₂, subst, arith}
+use Rattle.std.specs.Prelude.{map}
+use Rattle.std.proofs.Common.{◌≡◌, ◌∙◌, ◌⊎◌, inl, inr, ◌≤◌, ◌<◌, ◌+◌, ℕ, suc, List, [], ◌∷◌, Bool, true, false, if◌then◌else◌, cond, nat_eq, Option, Some, None, refl, sym, ap, ap₂, subst, arith}
 use Rattle.std.proofs.lemmas.Bool.{eqb-true}
 use Rattle.std.specs.Option.{option_to_list}
 use Rattle.js_syntax.specs.declared.node_kind.NodeKind.{NodeKind as Kind}
 use Rattle.js_syntax.specs.declared.node_kind.NodeKind.TheVariants as kind
 use Rattle.js_syntax.specs.Class.{root}
-use Rattle.js_syntax.specs.Node.{Forest, Note, nothing, node, absent, joined, alone}
+use Rattle.js_syntax.specs.Node.{Forest, Note, Tree, nothing, node, absent, nowhere, row, joined, alone}
+use Rattle.js_syntax.proofs.Truth.{first_of_both, second_of_both}
 use Rattle.js_rebuilt.specs.Rebuilt.{is_operation, Rebuilt, ends, stays, leaves as leaves_whole, opened, built, absent_leaves, absent_comes}
 use Rattle.json_shape.specs.Shape.{Fits}
+use Rattle.kept_names.specs.Kept.{declarator_of}
 use Rattle.scope_rules.specs.Context.{Context, opens, inside, outermost}
 use Rattle.scope_rules.specs.Site.{opens_one, scope_count, sites_of, found_in}
 use Rattle.scope_rules.specs.Table.{Scoping, scoping_of, symbols_declared}
@@ -16,12 +19,15 @@ use Rattle.scope_table.specs.Reading.{scope_at}
 use Rattle.scope_counts.specs.Exact.{count}
 use Rattle.scope_counts.proofs.Rebuilding.{operation_is_plain}
 use Rattle.scope_laws.specs.Lists.{is_list}
+use Rattle.steps.specs.KeepForm.Part.{a_var}
 use Rattle.steps.specs.KeepForm.Sheds.{other}
 use Rattle.steps.proofs.KeepForm.Fitting.{fits_laid_out}
 use Rattle.steps.specs.Allowed.Edits.{Edit, TreeEdits, no_tree_edit, one_tree_edit}
 use Rattle.steps.proofs.Owed.FitsEdits.{edit_fits}
 use Rattle.steps.specs.Marked.Flags.{is_within}
 use Rattle.steps.proofs.Marked.Cuts.{Cuts, edit_cuts}
+use Rattle.steps.proofs.VarNames.Again.{is_name_alone, is_bare_name, are_names}
+use Rattle.steps.proofs.VarNames.Left.{NamesLeft}
 use Rattle.rules.proofs.Told.Marks.{marks_of_node}
 use Rattle.rules.proofs.Told.Merged.{merged_nests}
 use Rattle.rules.proofs.Told.Passed.{passed_nests}
@@ -31,7 +37,7 @@ use Rattle.rules.specs.Told.Nesting.{scope_inside, IsScopeIn, NestsAt, own_scope
 use Rattle.rules.proofs.Told.Standing.{strict_code, within_opens, operation_outside}
 use Rattle.rules.proofs.Told.Contexts.{looks, inside_looks}
 use Rattle.rules.proofs.Told.Made.{IsMade, scope_of, EachMade, new_made}
-use Rattle.rules.proofs.Told.Trims.{Trims, leaves, empties, empties_idle, tests, states, alternate, parts, rebuilds, inside as inside_it, behind, behind_none, trims}
+use Rattle.rules.proofs.Told.Trims.{Trims, leaves, empties, empties_idle, tests, states, alternate, parts, rebuilds, names_left, inside as inside_it, behind, behind_none, trims}
 use Rattle.rules.proofs.Told.Walking.{trimmed_stays}
 use Rattle.steps.specs.KeepForm.Part.{declares_one}
 
@@ -129,6 +135,29 @@ rebuilt_marks i (built {l = l} {m = m} {b = b} {s = s} may rest) = Prim.omega (a
 rebuilt_marks i (absent_leaves rest) = rebuilt_marks i rest
 rebuilt_marks i (absent_comes rest) = rebuilt_marks i rest
 
+-- nor do names
+name_unmarked : (i : ℕ) (k : Kind) (m : Note) (b : Forest) → is_name_alone k b ≡ true → count i (scope_marks (node k m b (absent nothing))) ≡ 0
+name_unmarked i (kind.BindingName x) m nothing h = refl
+name_unmarked i (kind.BindingName x) m (absent r) h = absurd cc
+name_unmarked i (kind.BindingName x) m (node j o c r) h = absurd cc
+name_unmarked i k m b h = absurd cc
+
+names_unmarked : (i : ℕ) (ts : List Tree) → are_names ts ≡ true → count i (scope_marks (row (map declarator_of ts))) ≡ 0
+names_unmarked i [] h = refl
+names_unmarked i (t ∷ ts) h =
+    let name = node t.kind t.note t.below (absent nothing) in
+    Prim.omega (
+      arith,
+      marks_of_node i kind.VariableDeclarator (record { span = t.note.span; id = None }) name (row (map declarator_of ts)),
+      name_unmarked i t.kind t.note t.below (first_of_both (is_bare_name t) (are_names ts) h),
+      names_unmarked i ts (second_of_both (is_bare_name t) (are_names ts) h),
+    )
+
+declared_unmarked : (i : ℕ) {k : Kind} {n m : Note} {a b : Forest} → NamesLeft k n a m b → count i (scope_marks b) ≡ 0
+declared_unmarked i made =
+    let inner = row (map declarator_of made.names) in
+    ap (λ t. count i (scope_marks t)) made.is ∙ Prim.omega (arith, marks_of_node i kind.Declarators nowhere inner nothing, names_unmarked i made.names made.bare)
+
 fewer_marks : (i : ℕ) (all listed : Bool) (t u : Forest) → Trims all listed t u → count i (scope_marks u) ≤ count i (scope_marks t)
 fewer_marks i all listed t u (leaves k n below rest) = Prim.omega (arith, marks_of_node i k n below rest)
 fewer_marks i all listed t u (empties r n m below rest) = Prim.omega (arith, marks_of_node i kind.ExpressionStatement n below rest)
@@ -154,6 +183,7 @@ fewer_marks i all listed t u (alternate k l n m o below b) =
 fewer_marks i all listed t u (parts r k l m n b v w rest gives) = Prim.omega (arith, marks_of_node i l n b rest, marks_of_node i k m (joined v (node l n b w)) rest, part_marks i v l n b w)
 fewer_marks i all listed t u (rebuilds r k l n m a b rest made unasked) =
     Prim.omega (arith, marks_of_node i k n a rest, marks_of_node i l m b rest, marks_of_node i k n a nothing, marks_of_node i l m b nothing, rebuilt_marks i made)
+fewer_marks i all listed t u (names_left r k n m a b rest made) = Prim.omega (arith, marks_of_node i k n a rest, marks_of_node i a_var m b rest, declared_unmarked i made)
 fewer_marks i all listed t u (inside_it r k n below now rest a h) =
     let own : count i (own_scope k n now) ≡ count i (own_scope k n below) = ap (λ b. count i (if b then option_to_list n.id else [])) a.opens in
     Prim.omega (arith, marks_of_node i k n below rest, marks_of_node i k n now rest, own, fewer_marks i all (is_list k) below now h)
@@ -165,7 +195,7 @@ cut_nests s t u c fits h =
     let trimmed = trims false false other t u c (fits_laid_out t fits) (λ g. never g) in
     record {
       nested = trimmed_stays false scope_inside (NestsAt s) (λ q p. q ≡ p) (λ q p k n now below a f i j w. ap₂ (λ (b : Bool) (o : Option ℕ). if b then n.id else o) w f)
-          (λ q p k n below at w f. f ∙ sym (ap (λ (b : Bool). if b then n.id else p) w)) (λ q p k n now below a f x o. subst (λ y. IsScopeIn s y n) (sym f) (x (sym a.opens ∙ o))) (λ p k l n m below now none x o. never (sym none ∙ o)) (λ k is p n below at. ap (λ (b : Bool). if b then n.id else p) (operation_outside k is below at)) (λ p n below at. refl) false t u trimmed (λ at. None)
+          (λ q p k n below at w f. f ∙ sym (ap (λ (b : Bool). if b then n.id else p) w)) (λ q p k n now at w f. ap (λ (b : Bool). if b then n.id else q) w ∙ f) (λ q p k n now below a f x o. subst (λ y. IsScopeIn s y n) (sym f) (x (sym a.opens ∙ o))) (λ p k l n m below now none x o. never (sym none ∙ o)) (λ k is p n below at. ap (λ (b : Bool). if b then n.id else p) (operation_outside k is below at)) (λ p n below at. refl) false t u trimmed (λ at. None)
           (λ at. None) 0 0 (λ i j f. refl) (λ l. refl) h.nested;
       once = λ i. Prim.omega (arith, h.once i, fewer_marks i false false t u trimmed);
     }

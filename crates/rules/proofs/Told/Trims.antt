@@ -11,15 +11,16 @@ use Rattle.form_rules.specs.Context.{is_module, has_use_strict, is_strict_list, 
 use Rattle.scope_rules.specs.Context.{opens}
 use Rattle.scope_rules.specs.Site.{has_eval, scope_row}
 use Rattle.scope_laws.specs.Lists.{is_list}
-use Rattle.steps.specs.KeepForm.Part.{gives_way, may_be_idle, is_tested, is_asked_for, declares_one}
+use Rattle.steps.specs.KeepForm.Part.{gives_way, may_be_idle, is_tested, is_asked_for, a_var, declares_one}
 use Rattle.steps.specs.KeepForm.Sheds.{Row, row_below}
 use Rattle.steps.specs.KeepForm.Layout.{is_laid_out}
 use Rattle.steps.proofs.KeepForm.Asked.{idle_kinds, tested_kinds}
 use Rattle.steps.proofs.KeepForm.Laid.{laid_absent, laid_order, laid_below, laid_behind}
 use Rattle.steps.specs.Marked.Flags.{is_within}
+use Rattle.steps.proofs.VarNames.Left.{NamesLeft}
 use Rattle.steps.proofs.Marked.Cuts as cuts
 use Rattle.steps.proofs.Marked.Cuts.{Cuts}
-use Rattle.steps.proofs.Marked.Exposing.{Only, only_or, kept, never, whole_no_body, part_no_directive, part_no_list, part_no_body, first_strict, first_list, first_function, Thinner, thinner_cuts}
+use Rattle.steps.proofs.Marked.Exposing.{Only, only_or, kept, never, names_evaluate_none, holds_no_body, whole_no_body, part_no_directive, part_no_list, part_no_body, first_strict, first_list, first_function, Thinner, thinner_cuts}
 use Rattle.steps.proofs.Marked.Rebuilding.{calls_no_eval}
 use Rattle.min_context.specs.Edited.{evals}
 use Rattle.rules.proofs.Told.Standing.{strict_code}
@@ -41,6 +42,7 @@ directives_back listed m t u (cuts.states r how x k n i l j y o b rest none) lai
 directives_back listed m t u (cuts.alternate y l i j o d b) laid e = sym (first_strict y l i j o d b) ∙ e
 directives_back listed m t u (cuts.parts r k l i j b v w rest gives unasked) laid e = never (sym (part_no_directive l j b rest unasked) ∙ e)
 directives_back listed m t u (cuts.rebuilds r k l n i a b rest made) laid e = never (sym (part_no_directive l i b rest made.unasked) ∙ e)
+directives_back listed m t u (cuts.names_left r k n i a b rest made) laid e = never e
 directives_back listed m t u (cuts.inside r (kind.Directive written) n below now rest called h) laid e = e
 directives_back listed m t u (cuts.inside r k n below now rest called h) laid e = never e
 directives_back listed m t u (cuts.behind r (kind.Directive written) n below rest now h) laid e =
@@ -58,6 +60,7 @@ list_back listed m t u (cuts.states r how x k n i l j y o b rest none) q laid e 
 list_back listed m t u (cuts.alternate y k i j o d b) l laid e = sym (first_list y k i j o d b) ∙ e
 list_back listed m t u (cuts.parts r k x i j b v w rest gives unasked) l laid e = never (sym (part_no_list x j b rest unasked) ∙ e)
 list_back listed m t u (cuts.rebuilds r k x n i a b rest made) l laid e = never (sym (part_no_list x i b rest made.unasked) ∙ e)
+list_back listed m t u (cuts.names_left r k n i a b rest made) l laid e = never e
 list_back listed m t u (cuts.inside r kind.Statements n below now rest called h) l laid e = directives_back true (row_below m kind.Statements) below now h (laid_below m kind.Statements n below rest laid) e
 list_back listed m t u (cuts.inside r k n below now rest called h) l laid e = never e
 list_back listed m t u (cuts.behind r kind.Statements n below rest now h) l laid e = e
@@ -73,6 +76,7 @@ function_back listed m t u (cuts.states r how x k n i l j y o b rest none) q lai
 function_back listed m t u (cuts.alternate y k i j o d b) l laid e = sym (first_function y k i j o d b) ∙ e
 function_back listed m t u (cuts.parts r k x i j b v w rest gives unasked) l laid e = whole_no_body k i (joined v (node x j b w)) rest gives ∙ sym (part_no_body x j b rest unasked) ∙ e
 function_back listed m t u (cuts.rebuilds r k x n i a b rest made) l laid e = part_no_body k n a rest made.old_unasked ∙ sym (part_no_body x i b rest made.unasked) ∙ e
+function_back listed m t u (cuts.names_left r k n i a b rest made) l laid e = holds_no_body k n a rest made.holds ∙ e
 function_back listed m t u (cuts.inside r kind.FunctionBody n below now rest called h) l laid e = list_back false (row_below m kind.FunctionBody) below now h refl (laid_below m kind.FunctionBody n below rest laid) e
 function_back listed m t u (cuts.inside r k n below now rest called h) l laid e = e
 function_back listed m t u (cuts.behind r kind.FunctionBody n below rest now h) l laid e = e
@@ -124,6 +128,23 @@ rebuilt_fewer (built {l = l} {b = b} {s = s} may rest) =
 rebuilt_fewer (absent_leaves rest) = rebuilt_fewer rest
 rebuilt_fewer (absent_comes rest) = rebuilt_fewer rest
 
+seen : (a b c : Bool) (x y : ℕ) → (1 ≤ x → b ≡ true) → (1 ≤ y → c ≡ true) → 1 ≤ cond a 1 0 + x + y → a || b || c ≡ true
+seen true b c x y f g h = first_of_either (true || b) c refl
+seen false b c zero y f g h = second_of_either (false || b) c (g (Prim.omega (arith, h)))
+seen false b c (suc x) y f g h = first_of_either (false || b) c (f (Prim.omega arith))
+
+never_one : {P : Type 0} → 1 ≤ 0 → P
+never_one h = absurd (Prim.omega (arith, h))
+
+pub evals_some : (t : Forest) → 1 ≤ evals t → has_eval t ≡ true
+evals_some nothing h = never_one h
+evals_some (absent rest) h = evals_some rest h
+evals_some (node k n below rest) h = seen (is_some (eval_of_call k below)) (has_eval below) (has_eval rest) (evals below) (evals rest) (evals_some below) (evals_some rest) h
+
+no_evals : (t : Forest) (n : ℕ) → evals t ≡ n → has_eval t ≡ false → n ≡ 0
+no_evals t zero is none = refl
+no_evals t (suc n) is none = never (sym none ∙ evals_some t (Prim.omega (arith, is)))
+
 pub fewer : (listed : Bool) (t u : Forest) → Cuts listed t u → evals u ≤ evals t
 fewer listed t u (cuts.leaves k n below rest plain) = Prim.omega arith
 fewer listed t u (cuts.empties r n m below rest) = Prim.omega arith
@@ -133,6 +154,7 @@ fewer listed t u (cuts.states r how x k n m l j y o b rest none) = Prim.omega ar
 fewer listed t u (cuts.alternate y l i j o d b) = Prim.omega arith
 fewer listed t u (cuts.parts r k l i j b v w rest gives unasked) = Prim.omega (arith, part_fewer v l j b w)
 fewer listed t u (cuts.rebuilds r k l n m a b rest made) = Prim.omega (arith, rebuilt_fewer made.rebuilt)
+fewer listed t u (cuts.names_left r k n m a b rest made) = let none = no_evals b (evals b) refl (names_evaluate_none made) in Prim.omega (arith, none)
 fewer listed t u (cuts.inside r k n below now rest called h) = Prim.omega (arith, fewer (is_list k) below now h, fewer_calls k below now called)
 fewer listed t u (cuts.behind r k n below rest now h) = Prim.omega (arith, fewer r rest now h)
 fewer listed t u (cuts.behind_none r rest now h) = fewer r rest now h
@@ -148,19 +170,6 @@ some_evals nothing e = never e
 some_evals (absent rest) e = some_evals rest e
 some_evals (node k n below rest) e = counted (is_some (eval_of_call k below)) (has_eval below) (has_eval rest) (evals below) (evals rest) (some_evals below) (some_evals rest) e
 
-seen : (a b c : Bool) (x y : ℕ) → (1 ≤ x → b ≡ true) → (1 ≤ y → c ≡ true) → 1 ≤ cond a 1 0 + x + y → a || b || c ≡ true
-seen true b c x y f g h = first_of_either (true || b) c refl
-seen false b c zero y f g h = second_of_either (false || b) c (g (Prim.omega (arith, h)))
-seen false b c (suc x) y f g h = first_of_either (false || b) c (f (Prim.omega arith))
-
-never_one : {P : Type 0} → 1 ≤ 0 → P
-never_one h = absurd (Prim.omega (arith, h))
-
-pub evals_some : (t : Forest) → 1 ≤ evals t → has_eval t ≡ true
-evals_some nothing h = never_one h
-evals_some (absent rest) h = evals_some rest h
-evals_some (node k n below rest) h = seen (is_some (eval_of_call k below)) (has_eval below) (has_eval rest) (evals below) (evals rest) (evals_some below) (evals_some rest) h
-
 none_left : (t u : Forest) → evals u ≡ evals t → Only (has_eval t) (has_eval u)
 none_left t u same e = evals_some u (Prim.omega (arith, same, some_evals t e))
 
@@ -173,6 +182,7 @@ behind_same listed t u (cuts.states r how x k n m l j y o b rest none) q same = 
 behind_same listed t u (cuts.alternate y k i j o d b) l same = refl
 behind_same listed t u (cuts.parts r k x i j b v w rest gives unasked) l same = refl
 behind_same listed t u (cuts.rebuilds r k x n m a b rest made) l same = refl
+behind_same listed t u (cuts.names_left r k n m a b rest made) l same = refl
 behind_same listed t u (cuts.inside r k n below now rest called h) l same = refl
 behind_same listed t u (cuts.behind r k n below rest now h) l same = Prim.omega (arith, same)
 behind_same listed t u (cuts.behind_none r rest now h) l same = same
@@ -213,6 +223,7 @@ pub data Trims (all : Bool) : (listed : Bool) → (t u : Forest) → Type 0 wher
   alternate : (t l : Kind) (i j o : Note) (d b : Forest) → Trims all false (node t i d (node l j b (node kind.EmptyStatement o nothing nothing))) (node t i d (node l j b (absent nothing)))
   parts : (listed : Bool) (k l : Kind) (i j : Note) (b v w rest : Forest) → gives_way k ≡ true → Trims all listed (node k i (joined v (node l j b w)) rest) (node l j b rest)
   rebuilds : (listed : Bool) (k l : Kind) (n m : Note) (a b rest : Forest) → Rebuilt (alone k n a) (alone l m b) → is_asked_for k ≡ false → Trims all listed (node k n a rest) (node l m b rest)
+  names_left : (listed : Bool) (k : Kind) (n m : Note) (a b rest : Forest) → NamesLeft k n a m b → Trims all listed (node k n a rest) (node a_var m b rest)
   inside : (listed : Bool) (k : Kind) (n : Note) (below now rest : Forest) → Alike all k now below → Trims all (is_list k) below now → Trims all listed (node k n below rest) (node k n now rest)
   behind : (listed : Bool) (k : Kind) (n : Note) (below rest now : Forest) → Trims all listed rest now → Trims all listed (node k n below rest) (node k n below now)
   behind_none : (listed : Bool) (rest now : Forest) → Trims all listed rest now → Trims all listed (absent rest) (absent now)
@@ -226,6 +237,7 @@ trims all listed m t u (cuts.states r how x k n i l j y o b rest none) laid same
 trims all listed m t u (cuts.alternate y l i j o d b) laid same = alternate y l i j o d b
 trims all listed m t u (cuts.parts r k l i j b v w rest gives unasked) laid same = parts r k l i j b v w rest gives
 trims all listed m t u (cuts.rebuilds r k l n i a b rest made) laid same = rebuilds r k l n i a b rest made.rebuilt made.old_unasked
+trims all listed m t u (cuts.names_left r k n i a b rest made) laid same = names_left r k n i a b rest made
 trims all listed m t u (cuts.inside r k n below now rest called h) laid same =
     let thin = thinner_cuts k below now h in
     let inner = laid_below m k n below rest laid in

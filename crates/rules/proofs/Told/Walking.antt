@@ -1,17 +1,23 @@
 -- What holds at each place of a program holds at each place of what an edit leaves.
-use Rattle.std.proofs.Common.{◌≡◌, ◌∙◌, ℕ, suc, Bool, true, false, true≢false, refl, sym, ap, subst}
+use Rattle.std.specs.Prelude.{None, map}
+use Rattle.std.proofs.Common.{◌≡◌, ◌∙◌, ℕ, suc, List, [], ◌∷◌, Bool, true, false, true≢false, refl, sym, ap, subst}
 use Rattle.js_syntax.specs.declared.node_kind.NodeKind.{NodeKind as Kind}
 use Rattle.js_syntax.specs.declared.node_kind.NodeKind.TheVariants as kind
-use Rattle.js_syntax.specs.Node.{Forest, Note, nothing, node, absent, joined, alone}
+use Rattle.js_syntax.specs.Node.{Forest, Note, Tree, nothing, node, absent, nowhere, row, joined, alone}
+use Rattle.js_syntax.proofs.Truth.{first_of_both, second_of_both}
 use Rattle.js_rebuilt.specs.Rebuilt.{is_operation, Rebuilt, ends, stays, leaves as leaves_whole, opened, built, absent_leaves, absent_comes}
+use Rattle.kept_names.specs.Kept.{declarator_of}
 use Rattle.scope_rules.specs.Context.{opens}
 use Rattle.scope_laws.specs.Lists.{is_list}
 use Rattle.scope_counts.proofs.Rebuilding.{operation_is_plain}
+use Rattle.steps.specs.KeepForm.Part.{a_var}
 use Rattle.steps.specs.Marked.Flags.{is_within}
 use Rattle.rules.specs.Told.Places.{EachPlace}
 use Rattle.steps.proofs.KeepForm.Asked.{tested_gives}
+use Rattle.steps.proofs.VarNames.Again.{is_name_alone, is_bare_name, are_names}
+use Rattle.steps.proofs.VarNames.Left.{NamesLeft}
 use Rattle.rules.proofs.Told.Standing.{list_outside, plain_outside}
-use Rattle.rules.proofs.Told.Trims.{Alike, alike_itself, Trims, leaves, empties, empties_idle, tests, states, alternate, parts, rebuilds, inside, behind, behind_none}
+use Rattle.rules.proofs.Told.Trims.{Alike, alike_itself, Trims, leaves, empties, empties_idle, tests, states, alternate, parts, rebuilds, names_left, inside, behind, behind_none}
 use Rattle.steps.specs.KeepForm.Part.{declares_one}
 
 -- `Follows q p` says what is around a place now, q, of what was around it, p. Where a node stands another may stand that makes no scope,
@@ -19,6 +25,7 @@ use Rattle.steps.specs.KeepForm.Part.{declares_one}
 module _ {S : Type 0} (all : Bool) (around : S → Kind → Note → Forest → ℕ → S) (P : S → Kind → Note → Forest → Type 0) (Follows : S → S → Type 0)
     (descends : (q p : S) (k : Kind) (n : Note) (now below : Forest) → Alike all k now below → Follows q p → (i j : ℕ) → is_within k now i ≡ is_within k below j → Follows (around q k n now i) (around p k n below j))
     (passes : (q p : S) (k : Kind) (n : Note) (below : Forest) (at : ℕ) → is_within k below at ≡ false → Follows q p → Follows q (around p k n below at))
+    (enters : (q p : S) (k : Kind) (n : Note) (now : Forest) (at : ℕ) → is_within k now at ≡ false → Follows q p → Follows (around q k n now at) p)
     (keeps : (q p : S) (k : Kind) (n : Note) (now below : Forest) → Alike all k now below → Follows q p → P p k n below → P q k n now)
     (anew : (p : S) (k l : Kind) (n m : Note) (below now : Forest) → opens l now ≡ false → P p k n below → P p l m now)
     (plain : (k : Kind) → is_operation k ≡ true → (p : S) (n : Note) (below : Forest) (at : ℕ) → around p k n below at ≡ p)
@@ -96,6 +103,33 @@ module _ {S : Type 0} (all : Bool) (around : S → Kind → Note → Forest → 
     rebuilt_there (absent_leaves {r = r} rest) h = rebuilt_there rest (anywhere r 1 0 h)
     rebuilt_there (absent_comes {s = q} rest) h = anywhere q 0 1 (rebuilt_there rest h)
 
+    -- names are declared there
+    module _ (keeps_there : (q : S) (l : Kind) (m : Note) (now : Forest) → opens l now ≡ false → Follows q p → P q l m now) where
+      name_there : (k : Kind) (m : Note) (b : Forest) → is_name_alone k b ≡ true → (qs : ℕ → S) → ((i : ℕ) → Follows (qs i) p) → EachPlace around P qs 0 (node k m b (absent nothing))
+      name_there (kind.BindingName x) m nothing h qs f = (keeps_there (qs 0) (kind.BindingName x) m nothing refl (f 0), tt, tt)
+      name_there (kind.BindingName x) m (absent r) h qs f = absurd cc
+      name_there (kind.BindingName x) m (node j i c r) h qs f = absurd cc
+      name_there k m b h qs f = absurd cc
+
+      declarators_there : (ts : List Tree) → are_names ts ≡ true → (qs : ℕ → S) (at : ℕ) → ((i : ℕ) → Follows (qs i) p) → EachPlace around P qs at (row (map declarator_of ts))
+      declarators_there [] h qs at f = tt
+      declarators_there (t ∷ ts) h qs at f =
+          let n : Note = record { span = t.note.span; id = None } in
+          let name = node t.kind t.note t.below (absent nothing) in (
+            keeps_there (qs at) kind.VariableDeclarator n name refl (f at),
+            name_there t.kind t.note t.below (first_of_both (is_bare_name t) (are_names ts) h) (around (qs at) kind.VariableDeclarator n name) (λ i. enters (qs at) p kind.VariableDeclarator n name i refl (f at)),
+            declarators_there ts (second_of_both (is_bare_name t) (are_names ts) h) qs (suc at) f,
+          )
+
+      declared_there : {k : Kind} {n m : Note} {a b : Forest} → NamesLeft k n a m b → (qs : ℕ → S) → ((i : ℕ) → Follows (qs i) p) → EachPlace around P qs 0 b
+      declared_there made qs f =
+          let inner = row (map declarator_of made.names) in
+          subst (λ t. EachPlace around P qs 0 t) (sym made.is) (
+            keeps_there (qs 0) kind.Declarators nowhere inner refl (f 0),
+            declarators_there made.names made.bare (around (qs 0) kind.Declarators nowhere inner) 0 (λ i. enters (qs 0) p kind.Declarators nowhere inner i refl (f 0)),
+            tt,
+          )
+
   pub trimmed_stays : (listed : Bool) (t u : Forest) → Trims all listed t u → (qs ps : ℕ → S) (i j : ℕ) → Covers listed qs ps → (listed ≡ false → i ≡ j) → EachPlace around P ps j t → EachPlace around P qs i u
   trimmed_stays listed t u (leaves k n below rest) qs ps i j c f h = row_stays true rest qs ps i (suc j) c (λ l. absurd (true≢false l)) h.2
   trimmed_stays listed t u (empties r n m below rest) qs ps i j c f h = (keeps (qs i) (ps j) kind.EmptyStatement m nothing nothing (alike_itself all kind.EmptyStatement nothing) (c i j f) (anew (ps j) kind.ExpressionStatement kind.EmptyStatement n m below nothing refl h.0), tt, row_stays r rest qs ps (suc i) (suc j) c (λ l. ap suc (f l)) h.2)
@@ -157,6 +191,13 @@ module _ {S : Type 0} (all : Bool) (around : S → Kind → Note → Forest → 
       let new = rebuilt_there (ps j) (λ x y now none. anew (ps j) k x n y a now none h.0) made (h.0, h.1, tt) in (
         keeps (qs i) (ps j) l m b b (alike_itself all l b) (c i j f) new.0,
         row_stays (is_list l) b (around (qs i) l m b) (around (ps j) l m b) 0 0 (covers_inside (qs i) (ps j) l m b b (alike_itself all l b) (c i j f)) (λ e. refl) new.1,
+        row_stays r rest qs ps (suc i) (suc j) c (λ e. ap suc (f e)) h.2,
+      )
+  trimmed_stays listed t u (names_left r k n m a b rest made) qs ps i j c f h =
+      let p = ps j in
+      let here : (q : S) (l : Kind) (x : Note) (now : Forest) → opens l now ≡ false → Follows q p → P q l x now = λ q l x now none over. keeps q p l x now now (alike_itself all l now) over (anew p k l n x a now none h.0) in (
+        here (qs i) a_var m b refl (c i j f),
+        declared_there p (λ l x now none. anew p k l n x a now none h.0) here made (around (qs i) a_var m b) (λ z. enters (qs i) p a_var m b z refl (c i j f)),
         row_stays r rest qs ps (suc i) (suc j) c (λ e. ap suc (f e)) h.2,
       )
   trimmed_stays listed t u (inside r k n below now rest a g) qs ps i j c f h = (

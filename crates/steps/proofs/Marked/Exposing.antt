@@ -105,7 +105,7 @@ declarators_call_none [] h = refl
 declarators_call_none (t ∷ ts) h =
     one_calls_none t.kind (record { span = t.note.span; id = None }) t.note t.below (row (map declarator_of ts)) (first_of_both (is_bare_name t) (are_names ts) h) ∙ declarators_call_none ts (second_of_both (is_bare_name t) (are_names ts) h)
 
-names_evaluate_none : {k : Kind} {n m : Note} {a b : Forest} → NamesLeft k n a m b → has_eval b ≡ false
+pub names_evaluate_none : {k : Kind} {n m : Note} {a b : Forest} → NamesLeft k n a m b → has_eval b ≡ false
 names_evaluate_none made = ap has_eval made.is ∙ ap (λ c. c || false) (declarators_call_none made.names made.bare)
 
 -- a statement of which names are left is no directive, no list and no body
@@ -117,7 +117,7 @@ holds_no_list : (k : Kind) (n : Note) (a rest : Forest) → leaves_names_of k �
 holds_no_list kind.Statements n a rest h = absurd cc
 holds_no_list k n a rest h = refl
 
-holds_no_body : (k : Kind) (n : Note) (a rest : Forest) → leaves_names_of k ≡ true → is_strict_function (node k n a rest) ≡ is_strict_function rest
+pub holds_no_body : (k : Kind) (n : Note) (a rest : Forest) → leaves_names_of k ≡ true → is_strict_function (node k n a rest) ≡ is_strict_function rest
 holds_no_body kind.FunctionBody n a rest h = absurd cc
 holds_no_body k n a rest h = refl
 

@@ -147,4 +147,4 @@ module _ (a : Around) (x y : Tree) (item : IsItem a) (untaken : is_untaken false
   }
 
 pub kept_names_owe : (a : Around) (x y : Tree) → KeptNames a x y → Becoming a x y
-kept_names_owe a _ _ (names_stay x y item untaken leaves vars_alone is) = owes a x y item untaken leaves vars_alone is
+kept_names_owe a _ _ (names_stay x y item untaken leaves vars_alone plain is) = owes a x y item untaken leaves vars_alone is
