@@ -112,17 +112,19 @@ statement_lacks t fits = lacking t (these (one statement ∷ [])) refl fits
 
 -- ---- declarations below exports
 
+none_by : (b : Bool) (aims : ℕ → Aims) (t : Forest) → not b ≡ true → gathered false aims 0 t ≡ [] → gathered b aims 0 t ≡ []
+none_by true aims t e h = absurd (true≢false (sym e))
+none_by false aims t e h = h
+
 none_gathered : (aims : ℕ → Aims) (at : ℕ) (t : Forest) → lacks_exports t ≡ true → gathered false aims at t ≡ []
 none_gathered aims at nothing h = refl
 none_gathered aims at (absent r) h = none_gathered aims (suc at) r h
 none_gathered aims at (node k n a r) h =
     let inner = second_of_both (not (is_export k)) (lacks_exports a && lacks_exports r) h in
-    ap₂ (λ ds es. ds ++ es) (below (is_export k) (first_of_both (not (is_export k)) (lacks_exports a && lacks_exports r) h) (first_of_both (lacks_exports a) (lacks_exports r) inner))
+    ap₂ (λ ds es. ds ++ es)
+    (none_by (is_export k) (aims_inside no_part (aims at) k a) a (first_of_both (not (is_export k)) (lacks_exports a && lacks_exports r) h)
+    (none_gathered (aims_inside no_part (aims at) k a) 0 a (first_of_both (lacks_exports a) (lacks_exports r) inner)))
     (none_gathered aims (suc at) r (second_of_both (lacks_exports a) (lacks_exports r) inner))
-  where
-    below : (b : Bool) → not b ≡ true → lacks_exports a ≡ true → gathered b (aims_inside no_part (aims at) k a) 0 a ≡ []
-    below true e g = absurd (true≢false (sym e))
-    below false e g = none_gathered (aims_inside no_part (aims at) k a) 0 a g
 
 pub names_stay : (e : BindingSite) → e.layer.scope ≡ 0 → (k : Kind) (n m : Note) (a b : Forest) → NamesLeft k n a m b → (c : Context) (next : ℕ) → 0 < next
     → Stays e (record { kind = k; note = n; below = a }) (Some (record { kind = a_var; note = m; below = b })) c next
