@@ -14,6 +14,9 @@ pub mod EmptyAlternates
 pub mod Jumps
 pub mod Thinner
 pub mod Untaken
+pub mod LeftNames
+pub mod FewerNames
+pub mod NoNames
 pub mod Editing
 pub mod Folding
 pub mod Settled

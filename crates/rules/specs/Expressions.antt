@@ -12,6 +12,7 @@ pub mod EmptyIfs
 pub mod EmptyAlternates
 pub mod Jumps
 pub mod Untaken
+pub mod LeftNames
 pub mod Known
 pub mod Settled
 pub mod Samples

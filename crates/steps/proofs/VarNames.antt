@@ -17,3 +17,4 @@ pub mod Runs
 pub mod Place
 pub mod Left
 pub mod Counted
+pub mod HasNames

@@ -24,6 +24,9 @@ use Rattle.rules.specs.Expressions.EmptyAlternates.{is_last, alternate_left, fol
 use Rattle.rules.specs.Expressions.Ifs.{fold_if}
 use Rattle.rules.specs.Expressions.Jumps.{cut_list}
 use Rattle.rules.specs.Expressions.Untaken.{rid_if, at_if_end}
+use Rattle.rules.specs.Expressions.LeftNames.{name_if}
+use Rattle.rules.proofs.Expressions.LeftNames.{names_edits}
+use Rattle.rules.proofs.Expressions.FewerNames.{named_is_less}
 use Rattle.rules.proofs.Expressions.Jumps.{list_edits, cut_is_less}
 use Rattle.rules.proofs.Expressions.Untaken as untaken
 use Rattle.rules.proofs.Expressions.Thinner as thinner
@@ -154,6 +157,13 @@ module _ (E : CompressOptions → Forest → Forest → Type 0) (makes : (o : Co
     edits = λ c a x y r h at e. made_by c.options (untaken.left_edits a x y r e);
     thins = λ c x y e. (thinner.left_is_less x y e).thins;
     lighter = λ c x y e. (thinner.left_is_less x y e).lighter;
+  }
+
+  pub ifs_named : Lawful E name_if
+  ifs_named = record {
+    edits = λ c a x y r h at e. made_by c.options (names_edits a x y r e);
+    thins = λ c x y e. (named_is_less x y e).thins;
+    lighter = λ c x y e. (named_is_less x y e).lighter;
   }
 
   pub ifs_end : Lawful E at_if_end

@@ -32,7 +32,7 @@ use Rattle.rules.proofs.Expressions.Thinner.{no_kind}
 -- ---- places in a branch that isn't taken
 
 -- by the nodes that may stand between
-abbrev All : (passes : Kind → Bool) → counts.Around → Type 0
+abbrev pub All : (passes : Kind → Bool) → counts.Around → Type 0
 All p a = (u : Bool) (b : places.Around) → led_by p u (to a b) ≡ led_by p true b
 
 -- for items, and for values
@@ -40,7 +40,7 @@ record Led (a : counts.Around) : Type 0 where
   items : All runs_inside a
   values : All passes a
 
-to_join : (a c : counts.Around) (b : places.Around) → to (join a c) b ≡ to a (to c b)
+pub to_join : (a c : counts.Around) (b : places.Around) → to (join a c) b ≡ to a (to c b)
 to_join here c b = refl
 to_join (behind k n d a) c b = ap (λ x. places.behind k n d x) (to_join a c b)
 to_join (behind_none a) c b = ap (λ x. places.behind_none x) (to_join a c b)
@@ -55,16 +55,16 @@ runs_on p k b e = ap (λ r. r || begins_untaken k b) e
 all_more : (p : Kind → Bool) (a c : counts.Around) → All p a → ((b : places.Around) → led_by p true (to c b) ≡ led_by p true b) → All p (join a c)
 all_more p a c h g u b = ap (λ x. led_by p u x) (to_join a c b) ∙ h u (to c b) ∙ g b
 
-all_under : (p : Kind → Bool) (a : counts.Around) (k : Kind) (n : Note) (rest : Forest) → p k ≡ true → All p a → All p (join a (under k n here rest))
+pub all_under : (p : Kind → Bool) (a : counts.Around) (k : Kind) (n : Note) (rest : Forest) → p k ≡ true → All p a → All p (join a (under k n here rest))
 all_under p a k n rest e h = all_more p a (under k n here rest) h (λ x. flagged p (p k || begins_untaken k x) x (runs_on p k x e))
 
-all_behind : (p : Kind → Bool) (a : counts.Around) (k : Kind) (n : Note) (b : Forest) → All p a → All p (join a (behind k n b here))
+pub all_behind : (p : Kind → Bool) (a : counts.Around) (k : Kind) (n : Note) (b : Forest) → All p a → All p (join a (behind k n b here))
 all_behind p a k n b h = all_more p a (behind k n b here) h (λ x. refl)
 
-all_absent : (p : Kind → Bool) (a : counts.Around) → All p a → All p (join a (behind_none here))
+pub all_absent : (p : Kind → Bool) (a : counts.Around) → All p a → All p (join a (behind_none here))
 all_absent p a h = all_more p a (behind_none here) h (λ x. refl)
 
-all_from : (p : Kind → Bool) (a c : counts.Around) → All p c → All p (join a c)
+pub all_from : (p : Kind → Bool) (a c : counts.Around) → All p c → All p (join a c)
 all_from p here c h u b = h u b
 all_from p (behind k n d a) c h u b = all_from p a c h u b
 all_from p (behind_none a) c h u b = all_from p a c h u b
@@ -118,20 +118,20 @@ declarator_row a k n rest h l m b r = no_kind h
 
 -- ---- edits there
 
-abbrev ItemsIf : Bool → counts.Around → Type 0
+abbrev pub ItemsIf : Bool → counts.Around → Type 0
 ItemsIf listed a = listed ≡ true → (asked_row (asked_of_program true) a).row ≡ row_items
 
 items_below : (k : Kind) (r : AskedRow) → is_list k ≡ true → asked_row_below r k ≡ row_items
 items_below statements r e = row_of_list r
 items_below k r e = no_kind e
 
-items_under : (a : counts.Around) (k : Kind) (n : Note) (rest : Forest) → ItemsIf (is_list k) (join a (under k n here rest))
+pub items_under : (a : counts.Around) (k : Kind) (n : Note) (rest : Forest) → ItemsIf (is_list k) (join a (under k n here rest))
 items_under a k n rest e = ap (λ (w : Asked). w.row) (asked_join (asked_of_program true) a (under k n here rest)) ∙ items_below k (asked_row (asked_of_program true) a).row e
 
-items_next : (listed : Bool) (a : counts.Around) (k : Kind) (n : Note) (b : Forest) → ItemsIf listed a → ItemsIf listed (join a (behind k n b here))
+pub items_next : (listed : Bool) (a : counts.Around) (k : Kind) (n : Note) (b : Forest) → ItemsIf listed a → ItemsIf listed (join a (behind k n b here))
 items_next listed a k n b h e = ap (λ (w : Asked). w.row) (asked_join (asked_of_program true) a (behind k n b here)) ∙ h e
 
-items_absent : (listed : Bool) (a : counts.Around) → ItemsIf listed a → ItemsIf listed (join a (behind_none here))
+pub items_absent : (listed : Bool) (a : counts.Around) → ItemsIf listed a → ItemsIf listed (join a (behind_none here))
 items_absent listed a h e = ap (λ (w : Asked). w.row) (asked_join (asked_of_program true) a (behind_none here)) ∙ h e
 
 untaken_there : (listed : Bool) (a : counts.Around) (k : Kind) (n : Note) (b rest : Forest) → ItemsIf listed a → All runs_inside a → may_go listed k b ≡ true → Untaken (to a (first rest)) (record { kind = k; note = n; below = b })
@@ -163,7 +163,7 @@ zero_edit a k n b l m c r value all drops =
     (subst (λ t. Edit (plug p (node l m c r)) t) (plug_join a (behind k n b here) (node (zero_for m).kind (zero_for m).note nothing r))
     (becomes_there p (Some x) (Some (zero_for m)) r (becomes (to p (first r)) x (zero_for m) (unrun_value (unrun_there a k n b l m c r value all drops)))))
 
-joined_edits : {t u v : Forest} → TreeEdits t u → TreeEdits u v → TreeEdits t v
+pub joined_edits : {t u v : Forest} → TreeEdits t u → TreeEdits u v → TreeEdits t v
 joined_edits (no_tree_edit t) more = more
 joined_edits (one_tree_edit t u v e rest) more = one_tree_edit t u _ e (joined_edits rest more)
 
@@ -173,7 +173,7 @@ by_node : (a : counts.Around) (k : Kind) (n : Note) (b c rest left : Forest) (go
 by_node a k n b c rest left true edit now below next = one_tree_edit (plug a (node k n b rest)) (plug a rest) (plug a left) (edit refl) now
 by_node a k n b c rest left false edit now below next = joined_edits below next
 
-within : (a c : counts.Around) (t u : Forest) → TreeEdits (plug (join a c) t) (plug (join a c) u) → TreeEdits (plug a (plug c t)) (plug a (plug c u))
+pub within : (a c : counts.Around) (t u : Forest) → TreeEdits (plug (join a c) t) (plug (join a c) u) → TreeEdits (plug a (plug c t)) (plug a (plug c u))
 within a c t u e = subst (λ v. TreeEdits v (plug a (plug c u))) (plug_join a c t) (subst (λ v. TreeEdits (plug (join a c) t) v) (plug_join a c u) e)
 
 -- the value of a declarator
@@ -211,7 +211,7 @@ value_edits a (node k n b rest) all =
 values_below : (a : counts.Around) (k : Kind) (b : Forest) → (passes k ≡ true → All passes a) → (is_declarator k ≡ true → OfDeclarator a) → TreeEdits (plug a b) (plug a (values_of k b (values_rid b)))
 values_below a k b all value = of_values a k b (values_rid b) (passes k) (is_declarator k) refl refl all value (λ h. value_edits a b (all h))
 
-if_runs : (a : counts.Around) (b c d : Forest) (runs : Bool) → (runs ≡ true → TreeEdits (plug a b) (plug a c)) → TreeEdits (plug a b) (plug a d) → TreeEdits (plug a b) (plug a (if runs then c else d))
+pub if_runs : (a : counts.Around) (b c d : Forest) (runs : Bool) → (runs ≡ true → TreeEdits (plug a b) (plug a c)) → TreeEdits (plug a b) (plug a d) → TreeEdits (plug a b) (plug a (if runs then c else d))
 if_runs a b c d true when otherwise = when refl
 if_runs a b c d false when otherwise = otherwise
 
@@ -229,9 +229,9 @@ rid_edits listed a (node k n b rest) items led =
 -- ---- of an `if`
 
 -- by the place of what lies below its branch
-record Branch (a c : counts.Around) (k : Kind) : Type 0 where
-  items : ItemsIf (is_list k) (join a c)
-  led : (p : Kind → Bool) → p k ≡ true → All p c
+pub record Branch (a c : counts.Around) (k : Kind) : Type 0 where
+  pub items : ItemsIf (is_list k) (join a c)
+  pub led : (p : Kind → Bool) → p k ≡ true → All p c
   value : is_declarator k ≡ true → OfDeclarator (join a c)
 
 branch_edits : (a c : counts.Around) (k : Kind) (below : Forest) → Branch a c k → TreeEdits (plug a (plug c below)) (plug a (plug c (branch_left k below)))
@@ -241,7 +241,7 @@ branch_edits a c k below at =
     (λ runs. rid_edits (is_list k) (join a c) below at.items (record { items = all_from runs_inside a c (at.led runs_inside runs); values = all_from passes a c (at.led passes (runs_pass k runs)) }))
     (values_below (join a c) k below (λ h. all_from passes a c (at.led passes h)) at.value))
 
-at_consequent : (a : counts.Around) (n : Note) (t : Kind) (m : Note) (d : Forest) (k : Kind) (i : Note) (alternate rest : Forest) → truth_given t m d ≡ Some false → Branch a (under if_statement n (behind t m d (under k i here alternate)) rest) k
+pub at_consequent : (a : counts.Around) (n : Note) (t : Kind) (m : Note) (d : Forest) (k : Kind) (i : Note) (alternate rest : Forest) → truth_given t m d ≡ Some false → Branch a (under if_statement n (behind t m d (under k i here alternate)) rest) k
 at_consequent a n t m d k i alternate rest is =
     let c = under if_statement n (behind t m d (under k i here alternate)) rest in
     record {
@@ -250,7 +250,7 @@ at_consequent a n t m d k i alternate rest is =
       value = λ h l o b r. ap (λ x. is_value x) (to_join a c (places.behind l o b (first r))) ∙ value_to a (to c (places.behind l o b (first r))) (declarator_row (under if_statement n (behind t m d here) rest) k i alternate h l o b r);
     }
 
-at_alternate : (a : counts.Around) (n : Note) (t : Kind) (m : Note) (d : Forest) (k : Kind) (i : Note) (b : Forest) (l : Kind) (j : Note) (r rest : Forest) → truth_given t m d ≡ Some true
+pub at_alternate : (a : counts.Around) (n : Note) (t : Kind) (m : Note) (d : Forest) (k : Kind) (i : Note) (b : Forest) (l : Kind) (j : Note) (r rest : Forest) → truth_given t m d ≡ Some true
     → Branch a (under if_statement n (behind t m d (behind k i b (under l j here r))) rest) l
 at_alternate a n t m d k i b l j r rest is =
     let c = under if_statement n (behind t m d (behind k i b (under l j here r))) rest in
@@ -312,19 +312,19 @@ found_absent : {t : Forest} → Found t → Found (absent t)
 found_absent f = record { place = behind_none f.place; note = f.note; below = f.below; rest = f.rest; is = ap (λ u. absent u) f.is; answers = f.answers }
 
 -- all nodes on the way are such
-abbrev leads_on : (p : Kind → Bool) → places.Around → Bool
+abbrev pub leads_on : (p : Kind → Bool) → places.Around → Bool
 leads_on p (first rest) = true
 leads_on p (places.behind k n b a) = leads_on p a
 leads_on p (places.behind_none a) = leads_on p a
 leads_on p (places.under k n a rest) = p k && leads_on p a
 
-list_or_not : (r : AskedRow) (k : Kind) → asked_row_below r k ≡ row_items → is_list k ≡ true
+pub list_or_not : (r : AskedRow) (k : Kind) → asked_row_below r k ≡ row_items → is_list k ≡ true
 list_or_not r statements e = refl
 list_or_not row_items (Kind.VariableDeclaration how) e = absurd cc
 list_or_not row_of_item Kind.Declarators e = absurd cc
 list_or_not r k e = absurd cc
 
-known_so : (b : Bool) (o : Option Bool) → is_known (Some b) o ≡ true → o ≡ Some b
+pub known_so : (b : Bool) (o : Option Bool) → is_known (Some b) o ≡ true → o ≡ Some b
 known_so true (Some true) h = refl
 known_so false (Some false) h = refl
 known_so true (Some false) h = no_kind h
@@ -332,7 +332,7 @@ known_so false (Some true) h = no_kind h
 known_so true None h = no_kind h
 known_so false None h = no_kind h
 
-given_some : (b : Bool) (x : Tree) → b ≡ true → is_some (given_if b x) ≡ true
+pub given_some : (b : Bool) (x : Tree) → b ≡ true → is_some (given_if b x) ≡ true
 given_some b x e = ap (λ c. is_some (given_if c x)) e
 
 module _ (x : Tree) (runs : only_runs x.kind ≡ true) (none : declares_none (forest_of x) ≡ true) where
@@ -559,7 +559,7 @@ module _ (x : Tree) (drops : may_be_dropped x.kind ≡ true) where
         | inr there ↦ there
       ]
 
-none_some : {o : Option Tree} → o ≡ None → is_some o ≡ true → ⊥
+pub none_some : {o : Option Tree} → o ≡ None → is_some o ≡ true → ⊥
 none_some e h = true≢false (sym h ∙ ap is_some e)
 
 -- where the rule answers nothing none stands in a branch that isn't taken that could leave

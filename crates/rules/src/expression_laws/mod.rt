@@ -22,5 +22,6 @@
 //! The code is empty: each function's contract is a law.
 pub mod lawful;
 pub mod laws;
+pub mod names;
 pub mod quiet;
 pub mod rows;
