@@ -84,20 +84,18 @@ node_deep k a false true is h below = elim (below h) [
 ]
 node_deep k a false false is h below = inl refl
 
-both_deep : (xs ys : List Tree) (more b c : ℕ) → AreFew xs 3 b → AreFew ys 3 c → AreFew (xs ++ ys) 3 (max (more + b) c)
-both_deep xs ys more b c (inl none) (inl also) = inl (subst (λ z. z ++ ys ≡ []) (sym none) also)
-both_deep xs ys more b c (inl none) (inr few) = inr (Prim.omega (arith, few))
-both_deep xs ys more b c (inr few) others = inr (Prim.omega (arith, few))
+both_deep : (xs ys : List Tree) (more own b c : ℕ) → AreFew xs 3 (own + b) → AreFew ys 3 c → AreFew (xs ++ ys) 3 (max (more + own + b) c)
+both_deep xs ys more own b c (inl none) (inl also) = inl (subst (λ z. z ++ ys ≡ []) (sym none) also)
+both_deep xs ys more own b c (inl none) (inr few) = inr (Prim.omega (arith, few))
+both_deep xs ys more own b c (inr few) others = inr (Prim.omega (arith, few))
 
 kept_deep : (more : ℕ → ℕ) (at : ℕ) (t : Forest) → vars_bind_names t ≡ true → AreFew (kept t) 3 (levels_at more at t)
 kept_deep more at nothing h = inl refl
 kept_deep more at (absent r) h = kept_deep more (suc at) r h
 kept_deep more at (node k n a r) h =
     let here = vars_bind_names_at k a (vars_bind_names a) in
-    subst (λ z. AreFew (kept (node k n a r)) 3 z) (Prim.omega arith)
-    (both_deep (kept_of k a (kept a)) (kept r) (more at) (one_each k + levels_at (lower k) 0 a) (levels_at more (suc at) r)
-    (node_deep k a (is_var k) (holds_statements k) refl (first_of_both here (vars_bind_names r) h) (kept_deep (lower k) 0 a))
-    (kept_deep more (suc at) r (second_of_both here (vars_bind_names r) h)))
+    both_deep (kept_of k a (kept a)) (kept r) (more at) (one_each k) (levels_at (lower k) 0 a) (levels_at more (suc at) r)
+    (node_deep k a (is_var k) (holds_statements k) refl (first_of_both here (vars_bind_names r) h) (kept_deep (lower k) 0 a)) (kept_deep more (suc at) r (second_of_both here (vars_bind_names r) h))
 
 no_kind : {A : Type 0} → false ≡ true → A
 no_kind e = absurd (true≢false (sym e))

@@ -249,8 +249,8 @@ module _ (e : BindingSite) (top : e.layer.scope ≡ 0) where
   changed a x y (unused_object c) fits h = parts_settled a x y (unused_object_owes a x y c) fits h
   changed a x y (known_operation c) fits h = parts_settled a x y (known_operation_owes a x y c) fits h
   changed a x y (idle_try c) fits h = part_settled a x y (idle_try_owes a x y c) fits h
-  changed a x y (kept_names c) fits h =
-      let names = names_left a x y c fits in
+  changed a x y (kept_names it) fits h =
+      let names = names_left a x y it fits in
       subst ExportedBy (made_plug a y)
       (settled a x (Some y) Anything fits (λ rest. holds_no_program x.kind x.note x.below rest names.1.holds) (λ f. absurd (true≢false f)) (anywhere (Some x) false (λ at. outermost) 0 0 a)
       (λ w c next some any. subst (λ k. Stays e x (Some (record { kind = k; note = y.note; below = y.below })) c next) (sym names.0)

@@ -37,13 +37,14 @@ is_named_there (names_stay x y item untaken leaves others plain is) =
     let of = leaving x.kind leaves in
     let b = x.below in
     let binds = first_of_both (vars_bind_names b) true (sym (of.plain_is x.note b) ∙ plain) in
-    named_so (record {
+    let named : IsNamed true x.kind b = record {
       is_item = refl;
       leaves = leaves;
       some = has_some b binds (λ e. declares_kept (kept (forest_of x)) y is (of.kept_is x.note b ∙ append-nil (kept b) ∙ e));
       plain = binds;
       others = first_of_both (declares_no_name x.kind (without_vars b)) true (sym (of.others_are x.note b) ∙ others);
-    })
+    } in
+    named_so named
 
 -- ---- where the rule answers nothing
 

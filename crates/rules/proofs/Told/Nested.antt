@@ -156,7 +156,8 @@ names_unmarked i (t ∷ ts) h =
 declared_unmarked : (i : ℕ) {k : Kind} {n m : Note} {a b : Forest} → NamesLeft k n a m b → count i (scope_marks b) ≡ 0
 declared_unmarked i made =
     let inner = row (map declarator_of made.names) in
-    ap (λ t. count i (scope_marks t)) made.is ∙ Prim.omega (arith, marks_of_node i kind.Declarators nowhere inner nothing, names_unmarked i made.names made.bare)
+    let none : count i (scope_marks (node kind.Declarators nowhere inner nothing)) ≡ 0 = Prim.omega (arith, marks_of_node i kind.Declarators nowhere inner nothing, names_unmarked i made.names made.bare) in
+    ap (λ t. count i (scope_marks t)) made.is ∙ none
 
 fewer_marks : (i : ℕ) (all listed : Bool) (t u : Forest) → Trims all listed t u → count i (scope_marks u) ≤ count i (scope_marks t)
 fewer_marks i all listed t u (leaves k n below rest) = Prim.omega (arith, marks_of_node i k n below rest)
