@@ -88,9 +88,12 @@ node_there a true s h below some = var_there a h some
 node_there a false true h below some = below h some
 node_there a false false h below some = absurd (some refl)
 
+not_empty : (t : Tree) (ts : List Tree) → (t ∷ ts ≡ []) → ⊥
+not_empty t ts e = cc
+
 is_empty : (ts : List Tree) → (ts ≡ []) ⊎ ((ts ≡ []) → ⊥)
 is_empty [] = inl refl
-is_empty (t ∷ ts) = inr (λ e. cc)
+is_empty (t ∷ ts) = inr (not_empty t ts)
 
 pub has_some : (t : Forest) → vars_bind_names t ≡ true → ((kept t ≡ []) → ⊥) → has_vars t ≡ true
 has_some nothing h some = absurd (some refl)
