@@ -455,7 +455,7 @@ parts_named : (a : Around) (x y : Tree) → ByParts a x y → Fits root (plug a 
 parts_named a x y owed fits = λ s calm kept. let old = owed.fits_expression fits in of_expression s (forest_of y) (taken_as (owed.takes fits) expression refl old) ∙ sym (of_expression s (forest_of x) old)
 
 -- of names a declaration is left that declares them
-only_names : List Named → List (List ℕ)
+abbrev only_names : List Named → List (List ℕ)
 only_names [] = []
 only_names (d ∷ ds) = d.name ∷ only_names ds
 
@@ -464,12 +464,12 @@ names_alone [] = refl
 names_alone (d ∷ ds) = ap (λ l. d.name ∷ l) (names_alone ds)
 
 kept_named : (a : Around) (x y : Tree) → KeptNames a x y → Fits root (plug a (Some x)) → SameNames x y
-kept_named a _ _ (names_stay x y item untaken leaves alone_vars plain is) fits = λ s calm.
+kept_named a _ _ (names_stay x y item never holds alone_vars plain is) fits = λ s calm.
     let old = declared s 0 (forest_of x) in
     let new = declared s 0 (forest_of y) in
     sym (names_anywhere s 0 (forest_of y))
     ∙ names_alone new
-    ∙ ap only_names (sym (found_alike x y (keeps_kind x.kind leaves) (stands_there a x y item untaken leaves alone_vars is fits) is s 0 0 calm))
+    ∙ ap only_names (sym (found_alike x y (keeps_kind x.kind holds) (stands_there a x y item never holds alone_vars is fits) is s 0 0 calm))
     ∙ sym (names_alone old)
     ∙ names_anywhere s 0 (forest_of x)
 
