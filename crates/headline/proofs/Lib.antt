@@ -19,4 +19,5 @@ mod RenotedValue
 mod RenotedImports
 mod RenotedPassed
 mod RenotedSites
+mod RenotedNames
 pub mod Renoted

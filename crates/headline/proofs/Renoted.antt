@@ -56,11 +56,12 @@ use Rattle.steps.specs.KeepForm.Part.{declares_one}
 use Rattle.steps.specs.Naming.Standing.{layer_of}
 use Rattle.steps.specs.Allowed.ValueStays.{ValueStays, value_is_stated}
 use Rattle.steps.specs.Allowed.UnrunValue.{passes, is_unrun, is_value_of, is_value, a_zero, UnrunValue, value_never_given}
+use Rattle.steps.specs.Allowed.KeptNames.{KeptNames, names_stay}
 use Rattle.steps.specs.Allowed.Untaken.{truth_given, untaken_where, is_known, leads_to_untaken, begins_untaken, runs_inside, is_untaken, Untaken, never_taken}
 use Rattle.steps.proofs.Owed.Changing.{cuts_bare}
 use Rattle.steps.proofs.Owed.ExposedBare.{bare_inside, bare_below, bare_exposed}
 use Rattle.steps.proofs.Owed.Focus.{follows_there}
-use Rattle.headline.specs.Clean.{IsDead, an_empty_statement, an_empty_block, a_silent_statement, an_unused_function, an_unused_declarator, a_value_of_an_unused_name, an_unused_import, a_known_conditional, a_known_side, an_unused_operation, an_unused_list, an_indirect_choice, a_one_sided_choice, idle_parts, two_sides, an_unused_object, a_known_operation, a_known_if, a_dead_if, an_empty_if, an_empty_alternate, an_unreached_statement, an_untaken_statement, an_unrun_value, an_idle_statement, a_repeated_import, an_idle_try, an_idle_body, CleanBut}
+use Rattle.headline.specs.Clean.{IsDead, an_empty_statement, an_empty_block, a_silent_statement, an_unused_function, an_unused_declarator, a_value_of_an_unused_name, an_unused_import, a_known_conditional, a_known_side, an_unused_operation, an_unused_list, an_indirect_choice, a_one_sided_choice, idle_parts, two_sides, an_unused_object, a_known_operation, a_known_if, a_dead_if, an_empty_if, an_empty_alternate, an_unreached_statement, an_untaken_statement, a_statement_of_names, an_unrun_value, an_idle_statement, a_repeated_import, an_idle_try, an_idle_body, CleanBut}
 use Rattle.headline.proofs.RenotedImports.{merged_as}
 use Rattle.headline.proofs.RenotedPassed.{passed_as}
 use Rattle.headline.proofs.RenotedUnused.{stands_as, needed_as, child_as, list_as}
@@ -74,6 +75,7 @@ use Rattle.headline.proofs.RenotedTry.{idle_try_as}
 use Rattle.headline.proofs.RenotedRows.{same_below, same_rest, same_kind, same_absent, nothing_node, nothing_absent, absent_node, nothing_bare, begins, opened, before_one, before_two}
 use Rattle.headline.proofs.RenotedValue.{stated_as, declared_as}
 use Rattle.headline.proofs.RenotedIf.{declares_bare, known_if_as, dead_if_as, empty_if_as, empty_alternate_as}
+use Rattle.headline.proofs.RenotedNames.{names_as}
 use Rattle.headline.proofs.RenotedSites.{free_as, inside_same, opens_same, same_binding}
 
 -- ---- what stands behind a node
@@ -634,6 +636,13 @@ module _ (unused imports : Bool) (t u : Forest) (e : bare t ≡ bare u) (clean :
       let same = unseen declares_none declares_bare (forest_of now) (forest_of x) (ap (λ b. node x.kind nowhere b nothing) o.same) in
       clean.nothing_is_dead o.around (Some now) o.is (an_untaken_statement o.around now (never_taken (item_as a o item) (o.untaken false ∙ taken) runs (same ∙ none)))
 
+  no_names : (a : Around) (x y : Tree) → u ≡ plug a (Some x) → KeptNames a x y → ⊥
+  no_names a _ _ is (names_stay x y item taken leaves others plain made) =
+      let o = other_place a x.kind x.note x.below is in
+      let now : Tree = record { kind = x.kind; note = o.note; below = o.below } in
+      let z = names_as a o.around o.note o.below x y (item_as a o item) (o.untaken false ∙ taken) o.same (names_stay x y item taken leaves others plain made) in
+      clean.nothing_is_dead o.around (Some now) o.is (a_statement_of_names o.around now z.0 z.1)
+
   no_value : (a : Around) (x y : Tree) → u ≡ plug a (Some x) → UnrunValue a x y → ⊥
   no_value a x _ is (value_never_given n _ given unrun drops) =
       let o = other_place a x.kind x.note x.below is in
@@ -686,6 +695,7 @@ module _ (unused imports : Bool) (t u : Forest) (e : bare t ≡ bare u) (clean :
   none_dead a x is (a_dead_if b y z dead) = no_dead_if b y z is dead
   none_dead a x is (an_unreached_statement b y unreached) = no_unreached b y is unreached
   none_dead a x is (an_untaken_statement b y untaken) = no_untaken b y is untaken
+  none_dead a x is (a_statement_of_names b y z names) = no_names b y z is names
   none_dead a x is (an_idle_statement b y idle) = no_idle b y is idle
   none_dead a x is (an_empty_if b y z empty) = no_empty_if b y z is empty
   none_dead a x is (an_empty_alternate b y z empty) = no_empty_alternate b y z is empty

@@ -38,6 +38,7 @@ use Rattle.steps.specs.Allowed.KnownIf.{KnownIf}
 use Rattle.steps.specs.Allowed.DeadIf.{DeadIf}
 use Rattle.steps.specs.Allowed.EmptyIf.{EmptyIf}
 use Rattle.steps.specs.Allowed.EmptyAlternate.{EmptyAlternate}
+use Rattle.steps.specs.Allowed.KeptNames.{KeptNames}
 -- and a block of nothing
 use Rattle.steps.specs.Allowed.EmptyBlock.{EmptyBlock}
 -- and a loop that never turns, or a `try` around nothing
@@ -121,6 +122,9 @@ pub data IsDead (unused imports : Bool) (t : Forest) : Around → Option Tree �
   an_unreached_statement : (a : Around) (x : Tree) → Unreached a x → IsDead unused imports t a (Some x)
   -- a statement in a branch that isn't taken, which declares no name around it: it never runs
   an_untaken_statement : (a : Around) (x : Tree) → Untaken a x → IsDead unused imports t a (Some x)
+  -- a statement of a list in such a branch, which declares names by `var`, by no pattern, and no other name around it: it never runs, and a
+  -- declaration of these names declares them
+  a_statement_of_names : (a : Around) (x y : Tree) → KeptNames a x y → IsDead unused imports t a (Some x)
   -- the value of a declaration in a branch that isn't taken, which is no name, literal, function or class: it is never evaluated
   an_unrun_value : (a : Around) (x y : Tree) → UnrunValue a x y → IsDead unused imports t a (Some x)
   -- a loop that never turns or a `try` around nothing in a list of statements, or one behind labels, which declares no name around it: it

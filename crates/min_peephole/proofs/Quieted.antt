@@ -38,6 +38,7 @@ use Rattle.rules.specs.Expressions.EmptyAlternates.{is_last, alternate_left}
 use Rattle.rules.specs.Expressions.Ifs.{if_becomes}
 use Rattle.rules.specs.Expressions.Jumps.{list_reached}
 use Rattle.rules.specs.Expressions.Untaken.{if_left}
+use Rattle.rules.specs.Expressions.LeftNames.{if_named}
 use Rattle.rules.specs.Expressions.Settled.{IsSettledAt}
 use Rattle.rules.proofs.Expressions.Walked.{settled_nodes}
 use Rattle.min_peephole.specs.Quiet.{first_facts, is_row, uses_names, decides_none, wastes_none, keeps_parts, computes_none, stays, all_stay, is_quiet}
@@ -126,12 +127,15 @@ module _ (f : Facts) (p : Place) (n : Note) (k : Kind) (inner : Forest) (h : sta
       let tested = not (is_some (test_left n k inner)) in
       let alternates = not (is_some (alternate_left (is_last p) n k inner)) in
       let reached = not (is_some (list_reached n k inner)) in
-      let taken = not (is_some (if_left n k inner)) in
+      let left = not (is_some (if_left n k inner)) in
+      let named = not (is_some (if_named n k inner)) in
+      let taken = left && named in
       let computes = and_parts (not (is_some (known_becomes n k inner))) (not (is_some (if_becomes n k inner)) && (tested && (alternates && (reached && taken)))) at_values.1 in
       let statements = and_parts (not (is_some (if_becomes n k inner))) (tested && (alternates && (reached && taken))) computes.1 in
       let tests = and_parts tested (alternates && (reached && taken)) statements.1 in
       let ends = and_parts alternates (reached && taken) tests.1 in
       let runs = and_parts reached taken ends.1 in
+      let untaken = and_parts left named runs.1 in
       record {
         conditional = none_there (conditional_becomes (spot_of p) k inner) decides.0;
         logical = none_there (logical_becomes (spot_of p) k inner) others.0;
@@ -147,7 +151,8 @@ module _ (f : Facts) (p : Place) (n : Note) (k : Kind) (inner : Forest) (h : sta
         test = none_there (test_left n k inner) tests.0;
         alternate = none_there (alternate_left (is_last p) n k inner) ends.0;
         jumps = none_there (list_reached n k inner) runs.0;
-        untaken = none_there (if_left n k inner) runs.1;
+        untaken = none_there (if_left n k inner) untaken.0;
+        names = none_there (if_named n k inner) untaken.1;
       }
 
 each_stays : (Q : Place → Tree → Type 0) (f : Facts) → ((p : Place) (n : Note) (k : Kind) (inner : Forest) → stays f p n k inner ≡ true → Q p (record { kind = k; note = n; below = inner })) → (s : Spot) (t : Forest) → all_stay f s t ≡ true → EachNode Q s t

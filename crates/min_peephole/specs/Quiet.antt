@@ -29,6 +29,7 @@ use Rattle.rules.specs.Expressions.EmptyAlternates.{is_last, alternate_left}
 use Rattle.rules.specs.Expressions.Ifs.{if_becomes}
 use Rattle.rules.specs.Expressions.Jumps.{list_reached}
 use Rattle.rules.specs.Expressions.Untaken.{if_left}
+use Rattle.rules.specs.Expressions.LeftNames.{if_named}
 
 -- what the first pass knows, where nothing is kept
 abbrev pub first_facts : Forest → Facts
@@ -56,7 +57,7 @@ keeps_parts p n k inner = not (is_some (sequence_left (spot_of p) n k inner)) &&
 abbrev pub computes_none : Place → Note → Kind → (inner : Forest) → Bool
 computes_none p n k inner =
     not (is_some (known_becomes n k inner))
-    && (not (is_some (if_becomes n k inner)) && (not (is_some (test_left n k inner)) && (not (is_some (alternate_left (is_last p) n k inner)) && (not (is_some (list_reached n k inner)) && not (is_some (if_left n k inner))))))
+    && (not (is_some (if_becomes n k inner)) && (not (is_some (test_left n k inner)) && (not (is_some (alternate_left (is_last p) n k inner)) && (not (is_some (list_reached n k inner)) && (not (is_some (if_left n k inner)) && not (is_some (if_named n k inner)))))))
 
 -- and is no import that a name leaves, no list that an import leaves, and no program whose imports come together or become exports from their modules
 abbrev pub uses_names : Facts → Place → Note → Kind → (inner : Forest) → Bool

@@ -13,7 +13,8 @@ use Rattle.rules.specs.DeadCode.Rules.{where_of, becomes_empty, becomes_stated}
 use Rattle.rules.specs.Expressions.Ifs.{if_becomes}
 use Rattle.rules.specs.Expressions.EmptyIfs.{test_left}
 use Rattle.rules.specs.Expressions.EmptyAlternates.{is_last, alternate_left}
-use Rattle.rules.specs.Expressions.Untaken.{if_left, if_ends, at_if_end}
+use Rattle.rules.specs.Expressions.Untaken.{if_left}
+use Rattle.rules.specs.Expressions.LeftNames.{if_named, if_ends, at_if_end}
 use Rattle.rules.specs.Imports.Rules.{pruned}
 use Rattle.rules.proofs.Expressions.Folding.{ifs_end}
 use Rattle.min_statements.specs.Acts.{empty, state, prune}
@@ -25,6 +26,7 @@ use Rattle.min_statements.proofs.Expressions.{rule_moves, rule_visits}
 use Rattle.min_statements.proofs.Alternates.{alternate_calls}
 use Rattle.min_statements.proofs.Tests.{test_calls}
 use Rattle.min_statements.proofs.Branches.{if_calls}
+use Rattle.min_statements.proofs.Naming.{names_calls}
 use Rattle.min_statements.proofs.Thinning.{left_calls}
 use Rattle.min_statements.proofs.Pruning.{prune_moves}
 use Rattle.min_statements.proofs.Stating.{state_moves}
@@ -74,17 +76,24 @@ if_calls_stay c a x y r here found = by one refl
     four : Option Tree
     four = if_left x.note x.kind x.below
 
-    by_alternate : (o : Option Tree) → three ≡ o → or_else three four ≡ Some y → CallsStay (before a r) x y
-    by_alternate (Some z) is e = alternate_calls (before a r) (is_last c.place) x y (is ∙ sym (ap (λ o. or_else o four) is) ∙ e)
-    by_alternate None is e = left_calls (before a r) x y (sym (ap (λ o. or_else o four) is) ∙ e)
+    five : Option Tree
+    five = if_named x.note x.kind x.below
 
-    by_test : (o : Option Tree) → two ≡ o → or_else (or_else two three) four ≡ Some y → CallsStay (before a r) x y
-    by_test (Some z) is e = test_calls (before a r) x y (is ∙ sym (ap (λ o. or_else (or_else o three) four) is) ∙ e)
-    by_test None is e = by_alternate three refl (sym (ap (λ o. or_else (or_else o three) four) is) ∙ e)
+    by_branch : (o : Option Tree) → four ≡ o → or_else four five ≡ Some y → CallsStay (before a r) x y
+    by_branch (Some z) is e = left_calls (before a r) x y (is ∙ sym (ap (λ o. or_else o five) is) ∙ e)
+    by_branch None is e = names_calls (before a r) x y (sym (ap (λ o. or_else o five) is) ∙ e)
+
+    by_alternate : (o : Option Tree) → three ≡ o → or_else (or_else three four) five ≡ Some y → CallsStay (before a r) x y
+    by_alternate (Some z) is e = alternate_calls (before a r) (is_last c.place) x y (is ∙ sym (ap (λ o. or_else (or_else o four) five) is) ∙ e)
+    by_alternate None is e = by_branch four refl (sym (ap (λ o. or_else (or_else o four) five) is) ∙ e)
+
+    by_test : (o : Option Tree) → two ≡ o → or_else (or_else (or_else two three) four) five ≡ Some y → CallsStay (before a r) x y
+    by_test (Some z) is e = test_calls (before a r) x y (is ∙ sym (ap (λ o. or_else (or_else (or_else o three) four) five) is) ∙ e)
+    by_test None is e = by_alternate three refl (sym (ap (λ o. or_else (or_else (or_else o three) four) five) is) ∙ e)
 
     by : (o : Option Tree) → one ≡ o → CallsStay (before a r) x y
-    by (Some z) is = if_calls (before a r) x y (is ∙ sym (ap (λ o. or_else (or_else (or_else o two) three) four) is) ∙ found)
-    by None is = by_test two refl (sym (ap (λ o. or_else (or_else (or_else o two) three) four) is) ∙ found)
+    by (Some z) is = if_calls (before a r) x y (is ∙ sym (ap (λ o. or_else (or_else (or_else (or_else o two) three) four) five) is) ∙ found)
+    by None is = by_test two refl (sym (ap (λ o. or_else (or_else (or_else (or_else o two) three) four) five) is) ∙ found)
 
 -- four calls one after another
 module _ (names : Names) where

@@ -18,5 +18,6 @@ mod Passing
 mod Seeing
 mod Emptying
 mod Thinning
+mod Naming
 mod Valuing
 mod Spared

@@ -46,7 +46,8 @@ use Rattle.steps.specs.Allowed.UnusedOperation.{acts}
 use Rattle.rules.specs.Expressions.Ifs.{if_becomes}
 use Rattle.rules.specs.Expressions.EmptyIfs.{test_left}
 use Rattle.rules.specs.Expressions.EmptyAlternates.{is_last, alternate_left}
-use Rattle.rules.specs.Expressions.Untaken.{if_left, if_ends}
+use Rattle.rules.specs.Expressions.Untaken.{if_left}
+use Rattle.rules.specs.Expressions.LeftNames.{if_named, if_ends}
 use Rattle.rules.specs.Expressions.Settled.{IsSettledAt, IsSettled}
 use Rattle.rules.proofs.Expressions.Walked.{settled_nodes}
 use Rattle.rules.specs.Imports.Repeated.{has_repeated, once_if, list_once}
@@ -294,15 +295,18 @@ record NoneEnds (p : Place) (n : Note) (k : Kind) (b : Forest) : Type 0 where
   tested : test_left n k b ≡ None
   alternate : alternate_left (is_last p) n k b ≡ None
   left : if_left n k b ≡ None
+  named : if_named n k b ≡ None
 
 each_none : (p : Place) (n : Note) (k : Kind) (b : Forest) → is_some (if_ends (is_last p) n k b) ≡ false → NoneEnds p n k b
 each_none p n k b e =
     let one = if_becomes n k b in
     let two = or_else one (test_left n k b) in
     let three = or_else two (alternate_left (is_last p) n k b) in
-    let firsts = first_some three (if_left n k b) e in
+    let four = or_else three (if_left n k b) in
+    let first_four = first_some four (if_named n k b) e in
+    let firsts = first_some three (if_left n k b) first_four in
     let first_two = first_some two (alternate_left (is_last p) n k b) firsts in
-    record { becomes = first_none one (test_left n k b) first_two; tested = second_none one (test_left n k b) first_two; alternate = second_none two (alternate_left (is_last p) n k b) firsts; left = second_none three (if_left n k b) e }
+    record { becomes = first_none one (test_left n k b) first_two; tested = second_none one (test_left n k b) first_two; alternate = second_none two (alternate_left (is_last p) n k b) firsts; left = second_none three (if_left n k b) first_four; named = second_none four (if_named n k b) e }
 
 not_tested : (f : Facts) (p : Place) (n : Note) (k : Kind) (b : Forest) → Unchanged f p n k b → test_left n k b ≡ None
 not_tested f p n if_statement b h = (each_none p n if_statement b (three_none f p n if_statement b (h refl)).1).tested
@@ -320,6 +324,10 @@ not_known f p n k b h = refl
 not_left : (f : Facts) (p : Place) (n : Note) (k : Kind) (b : Forest) → Unchanged f p n k b → if_left n k b ≡ None
 not_left f p n if_statement b h = (each_none p n if_statement b (three_none f p n if_statement b (h refl)).1).left
 not_left f p n k b h = refl
+
+not_named : (f : Facts) (p : Place) (n : Note) (k : Kind) (b : Forest) → Unchanged f p n k b → if_named n k b ≡ None
+not_named f p n if_statement b h = (each_none p n if_statement b (none_ends f p n if_statement b (h refl))).named
+not_named f p n k b h = refl
 
 none_unused : (f : Facts) (p : Place) (n : Note) (k : Kind) (b : Forest) → Unchanged f p n k b → (let x : Tree = record { kind = k; note = n; below = b } in pruned f (where_of p) x ≡ None)
 none_unused f p n (import_declaration source) b h = none_is (pruned f (where_of p) (record { kind = import_declaration source; note = n; below = b })) (all_none f p n (import_declaration source) b (h refl)).1
@@ -470,7 +478,7 @@ none_behind f w n k b h = refl
 settled_at : (f : Facts) (p : Place) (x : Tree) → IsAlive f p x → HasSlots p x → IsSettledAt p x
 settled_at f p x h slots =
     let e = settled_kind (spot_of p) x.note x.kind x.below (λ e. h.expression (slots.expression e)) in
-    record { conditional = e.0; logical = e.1; unused = e.2; list = e.3; indirect = e.4; one_sided = e.5; sequence = e.6; two_sides = e.7; object = e.8; known = e.9; statement = not_known f p x.note x.kind x.below (λ e. h.statement (slots.statement e)); test = not_tested f p x.note x.kind x.below (λ e. h.statement (slots.statement e)); alternate = not_alternate f p x.note x.kind x.below (λ e. h.statement (slots.statement e)); jumps = none_behind f (where_of p) x.note x.kind x.below (λ e. h.list (slots.list e)); untaken = not_left f p x.note x.kind x.below (λ e. h.statement (slots.statement e)) }
+    record { conditional = e.0; logical = e.1; unused = e.2; list = e.3; indirect = e.4; one_sided = e.5; sequence = e.6; two_sides = e.7; object = e.8; known = e.9; statement = not_known f p x.note x.kind x.below (λ e. h.statement (slots.statement e)); test = not_tested f p x.note x.kind x.below (λ e. h.statement (slots.statement e)); alternate = not_alternate f p x.note x.kind x.below (λ e. h.statement (slots.statement e)); jumps = none_behind f (where_of p) x.note x.kind x.below (λ e. h.list (slots.list e)); untaken = not_left f p x.note x.kind x.below (λ e. h.statement (slots.statement e)); names = not_named f p x.note x.kind x.below (λ e. h.statement (slots.statement e)) }
 
 -- Nothing of a program goes by what is known that a walk found as it is, and no expression of it comes to its parts or its value.
 pub none_goes : (s s' : Names) (k k' : Seen) (x y : Tree) → k.place ≡ outside → y ≡ x → Fits root (forest_of y) → Visits Visited is_written top (forest_of x) s k s' k' → IsQuiet (facts_of s' k') (forest_of y)

@@ -65,13 +65,13 @@ none_inside : {P : Type 0} → false ≡ true → P
 none_inside e = absurd (true≢false (sym e))
 
 -- what lies in a statement counts for itself
-abbrev CountsInside : (Forest → ℕ) → Type 0
+abbrev pub CountsInside : (Forest → ℕ) → Type 0
 CountsInside m = (k : Kind) (n : Note) (b c : Forest) → passes k ≡ true → m (alone k n b) + m c ≡ m (alone k n c) + m b
 
-ids_inside : (r : ℕ) → CountsInside (ids r)
+pub ids_inside : (r : ℕ) → CountsInside (ids r)
 ids_inside r k n b c e = Prim.omega arith
 
-evals_inside : CountsInside evals
+pub evals_inside : CountsInside evals
 evals_inside statements n b c e = Prim.omega arith
 evals_inside block_statement n b c e = Prim.omega arith
 evals_inside if_statement n b c e = Prim.omega arith
@@ -111,7 +111,7 @@ plain_value Kind.TemplateLiteral h = refl
 plain_value Kind.TaggedTemplateExpression h = refl
 plain_value k h = none_inside h
 
-runs_pass : (k : Kind) → runs_inside k ≡ true → passes k ≡ true
+pub runs_pass : (k : Kind) → runs_inside k ≡ true → passes k ≡ true
 runs_pass k h = first_of_either (runs_inside k) (declares k) h
 
 abbrev CountsZero : (Forest → ℕ) → Type 0
@@ -215,7 +215,7 @@ left_none c x at = does_none rid_if c x (sym (left_as_ruled x.note x.kind x.belo
 
 -- no call of it is a direct one of `eval`
 
-if_bare : (u : Use) (k : Kind) (b : Forest) → k ≡ if_statement → stands_bare u false k b ≡ true
+pub if_bare : (u : Use) (k : Kind) (b : Forest) → k ≡ if_statement → stands_bare u false k b ≡ true
 if_bare u k b e = ap (λ l. stands_bare u false l b) e
 
 none_then : {P : Type 0} {y : Tree} → None ≡ Some y → P

@@ -10,4 +10,6 @@ pub mod Alternates
 pub mod Own
 pub mod Behind
 pub mod Untaken
+pub mod Vars
+pub mod LeftNames
 pub mod Statement

@@ -18,7 +18,7 @@ use Rattle.rules.specs.DeadCode.Knows.{TellsBound, TellsExported}
 use Rattle.rules.specs.DeadCode.Rules.{Facts, where_of, becomes_empty, becomes_stated}
 use Rattle.rules.specs.Expressions.Known.{at_expression_end}
 use Rattle.rules.specs.Expressions.EmptyAlternates.{is_last}
-use Rattle.rules.specs.Expressions.Untaken.{if_ends}
+use Rattle.rules.specs.Expressions.LeftNames.{if_ends}
 use Rattle.rules.specs.Imports.Merged.{come_together}
 use Rattle.rules.specs.Imports.Passed.{pass_on}
 use Rattle.rules.specs.Imports.Rules.{pruned}

@@ -1,10 +1,14 @@
 // What becomes of an `if` of which the test is known, and of a `try` around nothing.
-ghost use Rattle.std.specs.Prelude.{◌≡◌};
+ghost use Rattle.std.specs.Prelude.{◌≡◌, IfOk};
 ghost use Rattle.js_syntax.specs.Node.{row};
-ghost use Rattle.min_traverse.specs.Lawful.{Does};
+ghost use Rattle.min_traverse.specs.Lawful.{either, Does};
 ghost use Rattle.steps.specs.Allowed.Branches.{is_branch};
 ghost use Rattle.steps.specs.Allowed.KnownConditional.{truth_known};
-ghost use Rattle.rules.specs.Expressions.Untaken.{rid_if, at_if_end};
+ghost use Rattle.rules.specs.Expressions.Ifs.{fold_if};
+ghost use Rattle.rules.specs.Expressions.EmptyIfs.{fold_empty_if};
+ghost use Rattle.rules.specs.Expressions.EmptyAlternates.{fold_empty_alternate};
+ghost use Rattle.rules.specs.Expressions.Untaken.{rid_if};
+ghost use Rattle.rules.specs.Expressions.LeftNames.{at_if_end};
 ghost use Rattle.min_statements.specs.Ifs.{branches_of, told_branches, index_if, one_of_two, one_or_none, branch_of, try_of, branch_at};
 
 use crate::blocks::idles;
@@ -12,13 +16,14 @@ use crate::emptied::put_empty;
 use crate::empty_alternates::fold_empty_alternate;
 use crate::empty_ifs::fold_empty_if;
 use crate::inside::declares_no_name;
+use crate::left_names::leave_names;
 use crate::tries::{are_blocks, has_no_loop, is_block};
 use crate::untaken::{drop_branch, rid_branch, untaken_at};
 use js_syntax::NodeKind;
 use js_tree::Node;
 use min_context::MinifierTraverseCtx;
 use min_expressions::{keep_child, truth_known};
-use std::alloc::Global;
+use std::alloc::{AllocError, Global};
 
 // A statement that means the same wherever one may stand.
 fn is_branch(kind: &NodeKind) -> bool
@@ -173,12 +178,9 @@ fn thin_branch(node: &mut Node, ctx: &mut MinifierTraverseCtx) -> bool
     }
 }
 
-/// An `if` on a test that is known becomes the branch that runs, if that means the same wherever it stands and the other one declares no
-/// name around it; and empty, if there is no branch to run. A `try` around nothing becomes its finalizer, or its block. An `if` whose
-/// branches are empty becomes a statement of its test. One with an empty alternate loses that, where none of an `if` around may follow.
-/// Else, what declares no name around it leaves the branch that isn't taken. The context is told.
-pub fn try_fold_if(node: &mut Node, ctx: &mut MinifierTraverseCtx) -> bool
-    ensures does { Does at_if_end ctx.old node.old result ctx.new node.new }
+// All but that names are left.
+fn thin_if(node: &mut Node, ctx: &mut MinifierTraverseCtx) -> bool
+    ensures does { Does (either (either (either fold_if fold_empty_if) fold_empty_alternate) rid_if) ctx.old node.old result ctx.new node.new }
 {
     match branch_at(node, ctx.alloc()) {
         Some(Some(at)) => {
@@ -199,4 +201,18 @@ pub fn try_fold_if(node: &mut Node, ctx: &mut MinifierTraverseCtx) -> bool
             }
         }
     }
+}
+
+/// An `if` on a test that is known becomes the branch that runs, if that means the same wherever it stands and the other one declares no
+/// name around it; and empty, if there is no branch to run. A `try` around nothing becomes its finalizer, or its block. An `if` whose
+/// branches are empty becomes a statement of its test. One with an empty alternate loses that, where none of an `if` around may follow.
+/// Else, what declares no name around it leaves the branch that isn't taken, or of what declares names by `var` alone a declaration of these is
+/// left. The context is told. It fails only for want of memory.
+pub fn try_fold_if(node: &mut Node, ctx: &mut MinifierTraverseCtx) -> Result<bool, AllocError>
+    ensures does { IfOk result (λ answer. Does at_if_end ctx.old node.old answer ctx.new node.new) }
+{
+    if thin_if(node, ctx) {
+        return Ok(true);
+    }
+    leave_names(node, ctx)
 }

@@ -28,6 +28,7 @@ mod imports;
 mod inert;
 mod inside;
 mod merged;
+mod left_names;
 mod names;
 mod passed;
 mod stated;
@@ -36,6 +37,7 @@ mod tries;
 mod trimmed;
 mod untaken;
 mod values;
+mod vars;
 mod walk;
 
 pub use emptied::empty_statement;

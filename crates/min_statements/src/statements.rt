@@ -131,7 +131,7 @@ impl Traverse for Statements {
         if state_value(self, node, ctx) {
             return Ok(());
         }
-        if try_fold_if(node, ctx) {
+        if try_fold_if(node, ctx)? {
             return Ok(());
         }
         remove_unused_import_specifiers(self, node, ctx);

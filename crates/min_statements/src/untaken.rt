@@ -19,7 +19,7 @@ use std::alloc::Global;
 
 // ---- one statement
 
-fn is_list(kind: &NodeKind) -> bool
+pub(crate) fn is_list(kind: &NodeKind) -> bool
     ensures { result ≡ is_list kind.now }
 {
     matches!(kind, NodeKind::Statements)

@@ -3,13 +3,13 @@ use Rattle.std.proofs.Common.{◌≡◌, ◌↔◌, Option}
 use Rattle.js_syntax.specs.Node.{Forest, Tree}
 use Rattle.scope_laws.specs.Place.{Around, plug}
 use Rattle.scope_counts.specs.Scopes.{unmarked}
-use Rattle.headline.specs.Clean.{CleanBut, IsDead, an_empty_statement, an_empty_block, a_silent_statement, an_unused_function, an_unused_declarator, a_value_of_an_unused_name, an_unused_import, a_known_conditional, a_known_side, an_unused_operation, an_unused_list, an_indirect_choice, a_one_sided_choice, idle_parts, two_sides, an_unused_object, a_known_operation, a_known_if, a_dead_if, an_empty_if, an_empty_alternate, an_unreached_statement, an_untaken_statement, an_unrun_value, an_idle_statement, a_repeated_import, an_idle_try, an_idle_body}
+use Rattle.headline.specs.Clean.{CleanBut, IsDead, an_empty_statement, an_empty_block, a_silent_statement, an_unused_function, an_unused_declarator, a_value_of_an_unused_name, an_unused_import, a_known_conditional, a_known_side, an_unused_operation, an_unused_list, an_indirect_choice, a_one_sided_choice, idle_parts, two_sides, an_unused_object, a_known_operation, a_known_if, a_dead_if, an_empty_if, an_empty_alternate, an_unreached_statement, an_untaken_statement, a_statement_of_names, an_unrun_value, an_idle_statement, a_repeated_import, an_idle_try, an_idle_body}
 use Rattle.rules.specs.DeadCode.Knows.{Knows}
 use Rattle.rules.specs.DeadCode.Quiet.{Exactly, IsQuiet}
 use Rattle.rules.specs.DeadCode.Rules.{Facts}
 use Rattle.rules.proofs.DeadCode.Alive.{no_empty_item, no_empty_block, no_silent_statement, no_idle_body, no_unused_function, no_unused_declarator, no_value_stays}
 use Rattle.rules.specs.Expressions.Settled.{IsSettled}
-use Rattle.rules.proofs.Expressions.Settled.{no_conditional, no_side, no_unused, no_list, no_indirect, no_one_sided, no_sequence, no_two_sides, no_object, no_known, no_known_if, no_dead_if, no_empty_if, no_empty_alternate, no_try, no_unreached, no_untaken, no_idle, no_value}
+use Rattle.rules.proofs.Expressions.Settled.{no_conditional, no_side, no_unused, no_list, no_indirect, no_one_sided, no_sequence, no_two_sides, no_object, no_known, no_known_if, no_dead_if, no_empty_if, no_empty_alternate, no_try, no_unreached, no_untaken, no_names, no_idle, no_value}
 use Rattle.rules.specs.Imports.Quiet.{ImportsUsed}
 use Rattle.rules.proofs.Imports.Used.{no_unused_name}
 use Rattle.rules.proofs.Imports.Repeating.{none_repeats}
@@ -48,6 +48,7 @@ module _ (f : Facts) (t : Forest) (known : Knows f unmarked t) (exactly : Exactl
     none_dead a x is (an_empty_alternate b y z empty) = no_empty_alternate t settled a y z is empty
     none_dead a x is (an_idle_try b y z idle) = no_try t settled a y z is idle
     none_dead a x is (an_idle_body b y z idle) = no_idle_body f t known exactly quiet b y z is idle
+    none_dead a x is (a_statement_of_names b y z names) = no_names t settled a y z is names
     none_dead a x is (an_unrun_value b y z value) = no_value t settled a y z is value
     none_dead a x is (a_repeated_import b y repeated) = none_repeats t (λ c z rest at. (used c z rest at).1) b y is repeated
 

@@ -37,6 +37,7 @@ use Rattle.rules.specs.Expressions.EmptyAlternates.{is_last, alternate_left}
 use Rattle.rules.specs.Expressions.Ifs.{if_becomes}
 use Rattle.rules.specs.Expressions.Jumps.{list_reached}
 use Rattle.rules.specs.Expressions.Untaken.{if_left}
+use Rattle.rules.specs.Expressions.LeftNames.{if_named}
 use Rattle.rules.specs.Expressions.Settled.{IsSettledAt, IsSettled}
 use Rattle.rules.proofs.Expressions.Walked.{settled_nodes}
 use Rattle.rules_clean.proofs.Cleaned.{clean}
@@ -57,8 +58,8 @@ settles : {p : Place} {x : Tree} → conditional_becomes (spot_of p) x.kind x.be
     → unused_list_becomes (spot_of p) x.note x.kind x.below ≡ None → indirect_becomes (spot_of p) x.note x.kind x.below ≡ None
     → one_sided_becomes (spot_of p) x.note x.kind x.below ≡ None → sequence_left (spot_of p) x.note x.kind x.below ≡ None
     → two_sides_become (spot_of p) x.note x.kind x.below ≡ None → object_left (spot_of p) x.note x.kind x.below ≡ None → known_becomes x.note x.kind x.below ≡ None → if_becomes x.note x.kind x.below ≡ None
-    → test_left x.note x.kind x.below ≡ None → alternate_left (is_last p) x.note x.kind x.below ≡ None → list_reached x.note x.kind x.below ≡ None → if_left x.note x.kind x.below ≡ None → IsSettledAt p x
-settles conditional logical unused parts indirect side rest sides values known statement test alternate jumps untaken = record { conditional = conditional; logical = logical; unused = unused; list = parts; indirect = indirect; one_sided = side; sequence = rest; two_sides = sides; object = values; known = known; statement = statement; test = test; alternate = alternate; jumps = jumps; untaken = untaken }
+    → test_left x.note x.kind x.below ≡ None → alternate_left (is_last p) x.note x.kind x.below ≡ None → list_reached x.note x.kind x.below ≡ None → if_left x.note x.kind x.below ≡ None → if_named x.note x.kind x.below ≡ None → IsSettledAt p x
+settles conditional logical unused parts indirect side rest sides values known statement test alternate jumps untaken names = record { conditional = conditional; logical = logical; unused = unused; list = parts; indirect = indirect; one_sided = side; sequence = rest; two_sides = sides; object = values; known = known; statement = statement; test = test; alternate = alternate; jumps = jumps; untaken = untaken; names = names }
 
 -- ---- a function of a script
 
@@ -80,7 +81,7 @@ script_uses_imports = imports_used known_of_the_script a_function_of_a_script ((
 script_is_settled : IsSettled a_function_of_a_script
 script_is_settled =
     settled_nodes a_function_of_a_script
-    (settles refl refl refl refl refl refl refl refl refl refl refl refl refl refl refl, (settles refl refl refl refl refl refl refl refl refl refl refl refl refl refl refl, (settles refl refl refl refl refl refl refl refl refl refl refl refl refl refl refl, (settles refl refl refl refl refl refl refl refl refl refl refl refl refl refl refl, tt, (settles refl refl refl refl refl refl refl refl refl refl refl refl refl refl refl, tt, (settles refl refl refl refl refl refl refl refl refl refl refl refl refl refl refl, (settles refl refl refl refl refl refl refl refl refl refl refl refl refl refl refl, tt, tt), tt))), tt), tt), tt)
+    (settles refl refl refl refl refl refl refl refl refl refl refl refl refl refl refl refl, (settles refl refl refl refl refl refl refl refl refl refl refl refl refl refl refl refl, (settles refl refl refl refl refl refl refl refl refl refl refl refl refl refl refl refl, (settles refl refl refl refl refl refl refl refl refl refl refl refl refl refl refl refl, tt, (settles refl refl refl refl refl refl refl refl refl refl refl refl refl refl refl refl, tt, (settles refl refl refl refl refl refl refl refl refl refl refl refl refl refl refl refl, (settles refl refl refl refl refl refl refl refl refl refl refl refl refl refl refl refl, tt, tt), tt))), tt), tt), tt)
 
 pub script_is_clean : Clean a_function_of_a_script
 script_is_clean = clean known_of_the_script a_function_of_a_script script_is_known script_is_known_exactly script_is_quiet script_uses_imports script_is_settled

@@ -23,8 +23,8 @@ use Rattle.rules.specs.Expressions.EmptyIfs.{fold_empty_if}
 use Rattle.rules.specs.Expressions.EmptyAlternates.{is_last, alternate_left, fold_empty_alternate}
 use Rattle.rules.specs.Expressions.Ifs.{fold_if}
 use Rattle.rules.specs.Expressions.Jumps.{cut_list}
-use Rattle.rules.specs.Expressions.Untaken.{rid_if, at_if_end}
-use Rattle.rules.specs.Expressions.LeftNames.{name_if}
+use Rattle.rules.specs.Expressions.Untaken.{rid_if}
+use Rattle.rules.specs.Expressions.LeftNames.{name_if, at_if_end}
 use Rattle.rules.proofs.Expressions.LeftNames.{names_edits}
 use Rattle.rules.proofs.Expressions.FewerNames.{named_is_less}
 use Rattle.rules.proofs.Expressions.Jumps.{list_edits, cut_is_less}
@@ -167,7 +167,7 @@ module _ (E : CompressOptions → Forest → Forest → Type 0) (makes : (o : Co
   }
 
   pub ifs_end : Lawful E at_if_end
-  ifs_end = either_lawful (either_lawful (either_lawful ifs_fold tests_fold) alternates_fold) ifs_rid
+  ifs_end = either_lawful (either_lawful (either_lawful (either_lawful ifs_fold tests_fold) alternates_fold) ifs_rid) ifs_named
 
   pub expressions_fold : Lawful E at_expression_end
   expressions_fold = either_lawful (either_lawful (either_lawful (either_lawful (either_lawful (either_lawful (either_lawful (either_lawful (either_lawful conditionals_fold logicals_fold) unused_fold) lists_fold) indirect_fold) one_sided_fold) sequences_fold) two_sides_fold) objects_fold) known_fold

@@ -18,6 +18,7 @@ use Rattle.steps.specs.Allowed.KnownIf.{KnownIf}
 use Rattle.steps.specs.Allowed.DeadIf.{DeadIf}
 use Rattle.steps.specs.Allowed.EmptyIf.{EmptyIf}
 use Rattle.steps.specs.Allowed.EmptyAlternate.{EmptyAlternate}
+use Rattle.steps.specs.Allowed.KeptNames.{KeptNames}
 use Rattle.steps.proofs.Owed.Places.{place_of, rest_of, placed_is}
 use Rattle.rules.specs.DeadCode.Before.{before}
 use Rattle.rules.specs.Expressions.Uses.{spot_of}
@@ -52,6 +53,7 @@ use Rattle.steps.specs.Allowed.Untaken.{Untaken}
 use Rattle.rules.proofs.Expressions.Jumps.{settled_lists, settled_items, settled_without}
 use Rattle.rules.proofs.Expressions.Untaken as untaken
 use Rattle.rules.proofs.Expressions.Untaken.{settled_ifs, settled_values}
+use Rattle.rules.proofs.Expressions.NoNames.{settled_names, settled_without_names}
 use Rattle.rules.proofs.Expressions.EmptyIfs.{empty_if_edits, empty_if_answers}
 use Rattle.rules.proofs.Expressions.EmptyAlternates.{empty_alternate_edits, empty_alternate_answers}
 use Rattle.rules.proofs.Expressions.Ifs.{if_edits, known_if_answers, dead_if_answers, idle_try_answers}
@@ -127,6 +129,9 @@ no_idle t settled = settled_items t (λ a x rest is. (settled.each a x rest is).
 pub no_untaken : (t : Forest) → IsSettled t → (a : places.Around) (x : Tree) → t ≡ places.plug a (Some x) → Untaken a x → ⊥
 no_untaken t settled = settled_ifs t (λ a x rest is. (settled.each a x rest is).untaken)
 
+pub no_names : (t : Forest) → IsSettled t → (a : places.Around) (x y : Tree) → t ≡ places.plug a (Some x) → KeptNames a x y → ⊥
+no_names t settled = settled_names t (λ a x rest is. (settled.each a x rest is).names)
+
 pub is_settled :
     (t : Forest)
     → ((a : places.Around) (x y : Tree) → t ≡ places.plug a (Some x) → KnownConditional a x y → ⊥)
@@ -148,8 +153,9 @@ pub is_settled :
     → ((a : places.Around) (x y : Tree) → t ≡ places.plug a (Some x) → IdleTry x y → ⊥)
     → ((a : places.Around) (x y : Tree) → t ≡ places.plug a (Some x) → EmptyIf x y → ⊥)
     → ((a : places.Around) (x y : Tree) → t ≡ places.plug a (Some x) → EmptyAlternate a x y → ⊥)
+    → ((a : places.Around) (x y : Tree) → t ≡ places.plug a (Some x) → KeptNames a x y → ⊥)
     → IsSettled t
-is_settled t never_branch never_side never_unused never_list never_indirect never_one_sided never_sequence never_two_sides never_object never_known never_known_if never_dead_if never_unreached never_untaken never_idle never_value never_try never_empty_if never_empty_alternate = record {
+is_settled t never_branch never_side never_unused never_list never_indirect never_one_sided never_sequence never_two_sides never_object never_known never_known_if never_dead_if never_unreached never_untaken never_idle never_value never_try never_empty_if never_empty_alternate never_names = record {
   each = λ a x rest is. record {
     conditional = none_of (conditional_becomes (spot_of (place_at a (goes_on rest))) x.kind x.below) (λ y e. never_branch (before a rest) x y (is ∙ sym (plug_before a x rest)) (conditional_edits_there a x y rest e));
     logical = none_of (logical_becomes (spot_of (place_at a (goes_on rest))) x.kind x.below) (λ y e. never_side (before a rest) x y (is ∙ sym (plug_before a x rest)) (logical_edits_there a x y rest e));
@@ -172,5 +178,6 @@ is_settled t never_branch never_side never_unused never_list never_indirect neve
     alternate = none_of (alternate_left (is_last (place_at a (goes_on rest))) x.note x.kind x.below) (λ y e. never_empty_alternate (before a rest) x y (is ∙ sym (plug_before a x rest)) (empty_alternate_edits a rest x y e));
     jumps = settled_without t never_unreached never_idle a x rest is;
     untaken = untaken.settled_without t never_untaken never_value a x rest is;
+    names = settled_without_names t never_names a x rest is;
   };
 }

@@ -5,7 +5,7 @@ use Rattle.js_syntax.specs.declared.node_kind.NodeKind.{NodeKind as Kind}
 use Rattle.js_syntax.specs.declared.node_kind.NodeKind.TheVariants.{IfStatement as if_statement}
 use Rattle.js_syntax.specs.Node.{Forest, Tree, Note, nothing, node, absent, alone}
 use Rattle.kept_names.specs.Kept.{kept, declarator_of, declaration_of}
-use Rattle.min_traverse.specs.Lawful.{Rule}
+use Rattle.min_traverse.specs.Lawful.{Rule, or_else}
 use Rattle.scope_laws.specs.Place.{placed}
 use Rattle.steps.specs.Allowed.Branches.{declares_no_name}
 use Rattle.steps.specs.Allowed.KnownIf.{an_if}
@@ -14,8 +14,10 @@ use Rattle.steps.specs.KeepForm.Part.{leaves_names_of}
 use Rattle.steps.specs.VarNames.Declared.{without_vars}
 use Rattle.steps.specs.VarNames.Plain.{vars_bind_names}
 use Rattle.steps.specs.VarNames.Has.{has_vars}
-use Rattle.rules.specs.Expressions.Ifs.{given_if}
-use Rattle.rules.specs.Expressions.Untaken.{is_list}
+use Rattle.rules.specs.Expressions.EmptyIfs.{test_left}
+use Rattle.rules.specs.Expressions.EmptyAlternates.{is_last, alternate_left}
+use Rattle.rules.specs.Expressions.Ifs.{given_if, if_becomes}
+use Rattle.rules.specs.Expressions.Untaken.{is_list, if_left}
 
 -- ---- one statement
 
@@ -61,3 +63,11 @@ if_named n k below = None
 
 abbrev pub name_if : Rule
 name_if c x = if_named x.note x.kind x.below
+
+-- an `if` comes to a branch, or to its test, or it loses its alternate; or else its branch that isn't taken loses what goes, or names alone are
+-- left of what stands in it
+abbrev pub if_ends : (last : Bool) (note : Note) → Kind → (below : Forest) → Option Tree
+if_ends last n k below = or_else (or_else (or_else (or_else (if_becomes n k below) (test_left n k below)) (alternate_left last n k below)) (if_left n k below)) (if_named n k below)
+
+abbrev pub at_if_end : Rule
+at_if_end c x = if_ends (is_last c.place) x.note x.kind x.below

@@ -18,6 +18,7 @@ use Rattle.rules.specs.Expressions.EmptyAlternates.{is_last, alternate_left}
 use Rattle.rules.specs.Expressions.Ifs.{if_becomes}
 use Rattle.rules.specs.Expressions.Jumps.{list_reached}
 use Rattle.rules.specs.Expressions.Untaken.{if_left}
+use Rattle.rules.specs.Expressions.LeftNames.{if_named}
 
 -- at one place
 pub record IsSettledAt (p : Place) (x : Tree) : Type 0 where
@@ -36,6 +37,7 @@ pub record IsSettledAt (p : Place) (x : Tree) : Type 0 where
   pub alternate : alternate_left (is_last p) x.note x.kind x.below ≡ None
   pub jumps : list_reached x.note x.kind x.below ≡ None
   pub untaken : if_left x.note x.kind x.below ≡ None
+  pub names : if_named x.note x.kind x.below ≡ None
 
 pub record IsSettled (t : Forest) : Type 0 where
   pub each : (a : Around) (x : Tree) (rest : Forest) → t ≡ plug a (node x.kind x.note x.below rest) → IsSettledAt (place_at a (goes_on rest)) x

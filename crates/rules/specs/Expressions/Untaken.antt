@@ -4,16 +4,14 @@ use Rattle.std.specs.Prelude.{Bool, true, false, ◌&&◌, ◌||◌, Option, Non
 use Rattle.js_syntax.specs.declared.node_kind.NodeKind.{NodeKind as Kind}
 use Rattle.js_syntax.specs.declared.node_kind.NodeKind.TheVariants.{Statements as statements, IfStatement as if_statement, VariableDeclarator as variable_declarator}
 use Rattle.js_syntax.specs.Node.{Forest, Tree, Note, nothing, node, absent}
-use Rattle.min_traverse.specs.Lawful.{Rule, or_else}
+use Rattle.min_traverse.specs.Lawful.{Rule}
 use Rattle.steps.specs.Allowed.Branches.{declares_no_name}
 use Rattle.steps.specs.Allowed.KnownIf.{an_if}
 use Rattle.steps.specs.Allowed.Unreached.{only_runs}
 use Rattle.steps.specs.Allowed.Untaken.{truth_given, runs_inside}
 use Rattle.steps.specs.Allowed.UnrunValue.{passes, may_be_dropped, a_zero}
 use Rattle.rules.specs.Expressions.Lists.{new_note}
-use Rattle.rules.specs.Expressions.EmptyIfs.{test_left}
-use Rattle.rules.specs.Expressions.EmptyAlternates.{is_last, alternate_left}
-use Rattle.rules.specs.Expressions.Ifs.{given_if, if_becomes}
+use Rattle.rules.specs.Expressions.Ifs.{given_if}
 
 abbrev pub is_list : Kind → Bool
 is_list statements = true
@@ -93,10 +91,3 @@ if_left n k below = None
 
 abbrev pub rid_if : Rule
 rid_if c x = if_left x.note x.kind x.below
-
--- an `if` comes to a branch, or to its test, or it loses its alternate; or else its branch that isn't taken loses what goes
-abbrev pub if_ends : (last : Bool) (note : Note) → Kind → (below : Forest) → Option Tree
-if_ends last n k below = or_else (or_else (or_else (if_becomes n k below) (test_left n k below)) (alternate_left last n k below)) (if_left n k below)
-
-abbrev pub at_if_end : Rule
-at_if_end c x = if_ends (is_last c.place) x.note x.kind x.below

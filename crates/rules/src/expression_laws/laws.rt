@@ -21,6 +21,7 @@ ghost use Rattle.steps.specs.Allowed.KnownIf.{KnownIf};
 ghost use Rattle.steps.specs.Allowed.DeadIf.{DeadIf};
 ghost use Rattle.steps.specs.Allowed.EmptyIf.{EmptyIf};
 ghost use Rattle.steps.specs.Allowed.EmptyAlternate.{EmptyAlternate};
+ghost use Rattle.steps.specs.Allowed.KeptNames.{KeptNames};
 ghost use Rattle.steps.specs.Allowed.Unreached.{Unreached};
 ghost use Rattle.steps.specs.Allowed.Untaken.{Untaken};
 ghost use Rattle.steps.specs.Allowed.IdleStatement.{IdleStatement};
@@ -116,6 +117,7 @@ pub fn what_is_settled_has_no_edits()
     ensures empty_alternate { (t : Forest) → IsSettled t → (a : places.Around) (x y : Tree) → t ≡ places.plug a (Some x) → EmptyAlternate a x y → ⊥ }
     ensures idle_try { (t : Forest) → IsSettled t → (a : places.Around) (x y : Tree) → t ≡ places.plug a (Some x) → IdleTry x y → ⊥ }
     ensures idle { (t : Forest) → IsSettled t → (a : places.Around) (x : Tree) → t ≡ places.plug a (Some x) → IdleStatement a x → ⊥ }
+    ensures names { (t : Forest) → IsSettled t → (a : places.Around) (x y : Tree) → t ≡ places.plug a (Some x) → KeptNames a x y → ⊥ }
     ensures unrun { (t : Forest) → IsSettled t → (a : places.Around) (x y : Tree) → t ≡ places.plug a (Some x) → UnrunValue a x y → ⊥ }
     ensures settled { (t : Forest)
         → ((a : places.Around) (x y : Tree) → t ≡ places.plug a (Some x) → KnownConditional a x y → ⊥)
@@ -137,5 +139,6 @@ pub fn what_is_settled_has_no_edits()
         → ((a : places.Around) (x y : Tree) → t ≡ places.plug a (Some x) → IdleTry x y → ⊥)
         → ((a : places.Around) (x y : Tree) → t ≡ places.plug a (Some x) → EmptyIf x y → ⊥)
         → ((a : places.Around) (x y : Tree) → t ≡ places.plug a (Some x) → EmptyAlternate a x y → ⊥)
+        → ((a : places.Around) (x y : Tree) → t ≡ places.plug a (Some x) → KeptNames a x y → ⊥)
         → IsSettled t }
 {}

@@ -1,7 +1,7 @@
 -- statements/StatementsTraverse/exit_statement
 use Rattle.std.proofs.Common.{Bool, subst}
 use Rattle.min_traverse.specs.Lawful.{Does}
-use Rattle.rules.specs.Expressions.Untaken.{at_if_end}
+use Rattle.rules.specs.Expressions.LeftNames.{at_if_end}
 use Rattle.min_statements.specs.Acts.{empty, state}
 use Rattle.min_statements.specs.Own.{AnyEdit}
 use Rattle.rules.proofs.DeadCode.StaysTrue.{stays}

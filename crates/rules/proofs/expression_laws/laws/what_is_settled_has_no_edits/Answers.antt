@@ -1,4 +1,4 @@
-use Rattle.rules.proofs.Expressions.Settled.{no_conditional, no_side, no_unused, no_list, no_indirect, no_one_sided, no_sequence, no_two_sides, no_object, no_known, no_known_if, no_dead_if, no_empty_if, no_empty_alternate, no_try, no_unreached, no_untaken, no_idle, no_value, is_settled}
+use Rattle.rules.proofs.Expressions.Settled.{no_conditional, no_side, no_unused, no_list, no_indirect, no_one_sided, no_sequence, no_two_sides, no_object, no_known, no_known_if, no_dead_if, no_empty_if, no_empty_alternate, no_try, no_unreached, no_untaken, no_names, no_idle, no_value, is_settled}
 use Rattle.rules.proofs.expression_laws.laws.what_is_settled_has_no_edits.Goals as goal
 
 pub returns-clause-conditional : goal.returns-clause-conditional
@@ -42,6 +42,9 @@ returns-clause-unreached c = no_unreached
 
 pub returns-clause-untaken : goal.returns-clause-untaken
 returns-clause-untaken c = no_untaken
+
+pub returns-clause-names : goal.returns-clause-names
+returns-clause-names c = no_names
 
 pub returns-clause-idle : goal.returns-clause-idle
 returns-clause-idle c = no_idle

@@ -1,0 +1,283 @@
+// In a branch that isn't taken, a statement that declares names by `var`, and no others around it, becomes a declaration of these.
+ghost use Rattle.std.specs.Prelude.{◌≡◌, Some, true, false, IfOk};
+ghost use Rattle.js_syntax.specs.Node.{row};
+ghost use Rattle.scope_counts.specs.Counts.{ids};
+ghost use Rattle.min_context.specs.Edited.{evals, Leaves};
+ghost use Rattle.min_expressions.specs.Kept.{kept_if};
+ghost use Rattle.min_traverse.specs.Lawful.{Does};
+ghost use Rattle.steps.specs.KeepForm.Part.{leaves_names_of};
+ghost use Rattle.rules.specs.Expressions.LeftNames.{leaves_names, names_of, with_names, row_leaves, branch_leaves, branch_named, name_if};
+ghost use Rattle.min_statements.specs.LeftNames.{named_by_truth, named_among, named_at, row_gone, inside_gone, one_gone, gone_of, gone_at, named_item, named_child, named_there};
+
+use crate::untaken::{is_list, runs_inside};
+use crate::vars::{declares_vars_alone, has_vars, vars_bind_names};
+use js_syntax::NodeKind;
+use js_tree::Node;
+use kept_names::KeepVar;
+use min_context::MinifierTraverseCtx;
+use min_expressions::truth_given;
+use std::alloc::{AllocError, Global};
+
+// ---- one statement
+
+fn leaves_names_of(kind: &NodeKind) -> bool
+    ensures { result ≡ leaves_names_of kind.now }
+{
+    match kind {
+        NodeKind::LabeledStatement(_)
+        | NodeKind::IfStatement
+        | NodeKind::WithStatement
+        | NodeKind::WhileStatement
+        | NodeKind::DoWhileStatement
+        | NodeKind::ForStatement
+        | NodeKind::ForInStatement
+        | NodeKind::ForOfStatement
+        | NodeKind::SwitchStatement
+        | NodeKind::TryStatement => true,
+        _ => false,
+    }
+}
+
+// `listed` says whether it is an item of a list. Most statements declare nothing so, which is asked before what else they declare.
+fn leaves_names(listed: bool, node: &Node) -> bool
+    ensures { result ≡ leaves_names listed node.now.kind node.now.below }
+{
+    listed
+        && (leaves_names_of(node.kind())
+            && (has_vars(node.children())
+                && (vars_bind_names(node.children()) && declares_vars_alone(node))))
+}
+
+fn names_of(alloc: Global, node: &Node) -> Result<Option<Node>, AllocError>
+    ensures { IfOk result (λ y. y ≡ names_of node.now.kind node.now.note node.now.below) }
+{
+    let mut names = KeepVar::new(alloc);
+    names.visit_statement(node)?;
+    names.get_variable_declaration_statement()
+}
+
+// ---- whether there is one. The recursion goes as deep as the tree.
+
+#[cycle(leaves)]
+fn branch_leaves(node: &Node) -> bool
+    ensures { result ≡ branch_leaves node.now.kind node.now.below }
+{
+    runs_inside(node.kind()) && row_leaves(is_list(node.kind()), node.children())
+}
+
+#[cycle(leaves)]
+fn row_leaves(listed: bool, children: &[Option<Node>]) -> bool
+    ensures { result ≡ row_leaves listed (row children.now) }
+{
+    let mut rest = children;
+    while let [first, others @ ..] = rest {
+        if let Some(node) = first {
+            if leaves_names(listed, node) {
+                return true;
+            }
+            if branch_leaves(node) {
+                return true;
+            }
+        }
+        rest = others;
+    }
+    false
+}
+
+// ---- which branch
+
+fn index_where(holds: bool, at: usize) -> Option<usize>
+    ensures { result ≡ kept_if holds at }
+{
+    if holds { Some(at) } else { None }
+}
+
+fn named_consequent(branches: &[Option<Node>]) -> Option<usize>
+    ensures { result ≡ named_by_truth (Some false) (row branches.now) }
+{
+    match branches {
+        [Some(consequent), ..] => index_where(branch_leaves(consequent), 1),
+        [None, ..] => None,
+        [] => None,
+    }
+}
+
+fn named_alternate(branches: &[Option<Node>]) -> Option<usize>
+    ensures { result ≡ named_by_truth (Some true) (row branches.now) }
+{
+    match branches {
+        [Some(_), Some(alternate), ..] => index_where(branch_leaves(alternate), 2),
+        [Some(_), None, ..] => None,
+        [Some(_)] => None,
+        [None, ..] => None,
+        [] => None,
+    }
+}
+
+fn named_by_truth(truth: Option<bool>, branches: &[Option<Node>]) -> Option<usize>
+    ensures { result ≡ named_by_truth truth (row branches.now) }
+{
+    match truth {
+        Some(true) => named_alternate(branches),
+        Some(false) => named_consequent(branches),
+        None => None,
+    }
+}
+
+fn named_among(parts: &[Option<Node>], alloc: Global) -> Option<usize>
+    ensures { result ≡ named_among (row parts.now) }
+{
+    match parts {
+        [Some(test), branches @ ..] => named_by_truth(truth_given(test, alloc), branches),
+        [None, ..] => None,
+        [] => None,
+    }
+}
+
+// The branch that isn't taken, where names are left of something in it, by its index.
+fn named_at(node: &Node, alloc: Global) -> Option<usize>
+    ensures { result ≡ named_at node.now.kind node.now.below }
+{
+    let NodeKind::IfStatement = node.kind() else {
+        return None;
+    };
+    named_among(node.children(), alloc)
+}
+
+// ---- the context is told
+
+#[cycle(drops)]
+fn drop_inside(node: &Node, ctx: &mut MinifierTraverseCtx)
+    requires asked { ctx.old.requested ≡ true }
+    ensures left { Leaves ctx.old (λ r. inside_gone (ids r) node.now.kind node.now.below) (inside_gone evals node.now.kind node.now.below) ctx.new }
+{
+    if runs_inside(node.kind()) {
+        drop_row(is_list(node.kind()), node.children(), ctx);
+    }
+}
+
+#[cycle(drops)]
+fn drop_item(listed: bool, node: &Node, ctx: &mut MinifierTraverseCtx)
+    requires asked { ctx.old.requested ≡ true }
+    ensures left { Leaves ctx.old (λ r. one_gone (ids r) listed node.now) (one_gone evals listed node.now) ctx.new }
+{
+    if leaves_names(listed, node) {
+        ctx.drop_statement(node);
+    } else {
+        drop_inside(node, ctx);
+    }
+}
+
+#[cycle(drops)]
+fn drop_row(listed: bool, children: &[Option<Node>], ctx: &mut MinifierTraverseCtx)
+    requires asked { ctx.old.requested ≡ true }
+    ensures left { Leaves ctx.old (λ r. row_gone (ids r) listed (row children.now)) (row_gone evals listed (row children.now)) ctx.new }
+{
+    let mut rest = children;
+    while let [first, others @ ..] = rest {
+        if let Some(node) = first {
+            drop_item(listed, node, ctx);
+        }
+        rest = others;
+    }
+}
+
+fn drop_child(child: &Option<Node>, ctx: &mut MinifierTraverseCtx)
+    requires asked { ctx.old.requested ≡ true }
+    ensures left { Leaves ctx.old (λ r. gone_of (ids r) child.now) (gone_of evals child.now) ctx.new }
+{
+    if let Some(node) = child {
+        drop_inside(node, ctx);
+    }
+}
+
+fn drop_named(parts: &[Option<Node>], at: usize, ctx: &mut MinifierTraverseCtx)
+    requires asked { ctx.old.requested ≡ true }
+    ensures left { Leaves ctx.old (λ r. gone_at (ids r) at (row parts.now)) (gone_at evals at (row parts.now)) ctx.new }
+{
+    if at < parts.len() {
+        drop_child(&parts[at], ctx);
+    }
+}
+
+// ---- and then names alone are left
+
+#[cycle(names)]
+fn name_inside(alloc: Global, node: &mut Node) -> Result<(), AllocError>
+    ensures { IfOk result (λ u. node.new ≡ record node.old { below = branch_named node.old.kind node.old.below }) }
+{
+    if !runs_inside(node.kind()) {
+        return Ok(());
+    }
+    let listed = is_list(node.kind());
+    let mut items = node.replace_children(Vec::new(alloc));
+    let done = name_each(alloc, listed, items.as_mut_slice());
+    node.replace_children(items);
+    done
+}
+
+#[cycle(names)]
+fn name_each(alloc: Global, listed: bool, items: &mut [Option<Node>]) -> Result<(), AllocError>
+    ensures { IfOk result (λ u. row items.new ≡ with_names listed (row items.old)) }
+{
+    for item in items.iter_mut() {
+        name_item(alloc, listed, item)?;
+    }
+    Ok(())
+}
+
+#[cycle(names)]
+fn name_item(alloc: Global, listed: bool, item: &mut Option<Node>) -> Result<(), AllocError>
+    ensures { IfOk result (λ u. item.new ≡ named_item listed item.old) }
+{
+    let Some(node) = item else {
+        return Ok(());
+    };
+    if leaves_names(listed, node) {
+        *item = names_of(alloc, node)?;
+        return Ok(());
+    }
+    name_inside(alloc, node)
+}
+
+fn name_child(alloc: Global, child: &mut Option<Node>) -> Result<(), AllocError>
+    ensures { IfOk result (λ u. child.new ≡ named_child child.old) }
+{
+    match child {
+        Some(node) => name_inside(alloc, node),
+        None => Ok(()),
+    }
+}
+
+fn name_there(alloc: Global, parts: &mut [Option<Node>], at: usize) -> Result<(), AllocError>
+    ensures { IfOk result (λ u. row parts.new ≡ named_there at (row parts.old)) }
+{
+    if at < parts.len() {
+        name_child(alloc, &mut parts[at])
+    } else {
+        Ok(())
+    }
+}
+
+fn name_branch(alloc: Global, node: &mut Node, at: usize) -> Result<(), AllocError>
+    ensures { IfOk result (λ u. node.new ≡ record node.old { below = named_there at node.old.below }) }
+{
+    let mut parts = node.replace_children(Vec::new(alloc));
+    let done = name_there(alloc, parts.as_mut_slice(), at);
+    node.replace_children(parts);
+    done
+}
+
+/// In the branch of an `if` that isn't taken, statements of a list that declare names by `var`, and no others around them, become declarations
+/// of these. The context is told. The only error is want of memory.
+pub(crate) fn leave_names(node: &mut Node, ctx: &mut MinifierTraverseCtx) -> Result<bool, AllocError>
+    ensures does { IfOk result (λ answer. Does name_if ctx.old node.old answer ctx.new node.new) }
+{
+    let Some(at) = named_at(node, ctx.alloc()) else {
+        return Ok(false);
+    };
+    ctx.notice_change();
+    drop_named(node.children(), at, ctx);
+    name_branch(ctx.alloc(), node, at)?;
+    Ok(true)
+}
