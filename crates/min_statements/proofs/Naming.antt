@@ -25,7 +25,8 @@ use Rattle.rules.specs.Expressions.LeftNames.{leaves_names, names_of, with_names
 use Rattle.rules.proofs.Expressions.LeftNames.{is_named, kept_there, names_there}
 use Rattle.min_statements.specs.LeftNames.{named_by_truth, named_at, row_gone, inside_gone, one_gone, gone_of, gone_at, named_item, named_child, named_there}
 use Rattle.min_statements.proofs.Calls.{is_no_name, CallsStay}
-use Rattle.min_statements.proofs.Shed.{Adds, ids_add, evals_add, edited}
+use Rattle.min_statements.proofs.Emptying.{others}
+use Rattle.min_statements.proofs.Shed.{Adds, ids_add, evals_add, leaves_none, leaves_more, edited}
 use Rattle.min_statements.proofs.Thinning.{CountsInside, ids_inside, evals_inside, runs_pass}
 
 -- ---- what stands there then
@@ -191,3 +192,63 @@ pub each_named : (listed : Bool) (ts : List (Option Tree)) → row (map (named_i
 each_named listed [] = refl
 each_named listed (None ∷ ts) = ap absent (each_named listed ts)
 each_named listed (Some t ∷ ts) = named_row listed (leaves_names listed t.kind t.below) t (map (named_item listed) ts) (with_names listed (row ts)) refl (each_named listed ts)
+
+-- ---- the context is told
+
+abbrev pub LeavesRow : Seen → (listed : Bool) → Forest → Seen → Type 0
+LeavesRow c listed t d = Leaves c (λ r. row_gone (ids r) listed t) (row_gone evals listed t) d
+
+-- what is left to be told, by a loop: whatever tells the context of that has told it of all
+abbrev pub Until : (start : Seen) → (listed : Bool) → Forest → Seen → Forest → Type 0
+Until c listed all d t = (e : Seen) → LeavesRow d listed t e → LeavesRow c listed all e
+
+pub until_next : {c d e : Seen} (listed : Bool) (all : Forest) (xs : List (Option Tree)) (y : Option Tree) (x : Tree) → 1 ≤ length xs → y ≡ get_or xs 0 y → y ≡ Some x
+    → Leaves d (λ r. one_gone (ids r) listed x) (one_gone evals listed x) e → Until c listed all d (row xs) → Until c listed all e (row (take (length xs - 1) (drop 1 xs)))
+until_next listed all [] y x l at is told until f rest = absurd (Prim.omega (arith, l))
+until_next {c = c} {d = d} {e = e} listed all (z ∷ zs) y x l at is told until f rest =
+    let first : z ≡ Some x = sym at ∙ is in
+    let here : LeavesRow e listed (row zs) f = subst (λ us. LeavesRow e listed (row us) f) (others zs z) rest in
+    let both : LeavesRow d listed (row (Some x ∷ zs)) f = leaves_more told here (λ r. refl) refl in
+    until f (subst (λ q. LeavesRow d listed (row (q ∷ zs)) f) (sym first) both)
+
+pub until_none : {c d : Seen} (listed : Bool) (all : Forest) (xs : List (Option Tree)) → length xs < 1 → Until c listed all d (row xs) → LeavesRow c listed all d
+until_none {d = d} listed all [] l until = until d (leaves_none d)
+until_none listed all (x ∷ xs) l until = absurd (Prim.omega (arith, l))
+
+-- ---- the child at a place
+
+pub child_shed : (m : Forest → ℕ) (xs : List (Option Tree)) (i : ℕ) (d : Option Tree) → i < length xs → gone_of m (get_or xs i d) ≡ gone_at m i (row xs)
+child_shed m [] i d l = absurd (Prim.omega (arith, l))
+child_shed m (None ∷ xs) zero d l = refl
+child_shed m (Some t ∷ xs) zero d l = refl
+child_shed m (None ∷ xs) (suc i) d l = child_shed m xs i d (Prim.omega (arith, l))
+child_shed m (Some t ∷ xs) (suc i) d l = child_shed m xs i d (Prim.omega (arith, l))
+
+pub no_child_shed : (m : Forest → ℕ) (xs : List (Option Tree)) (i : ℕ) → length xs ≤ i → 0 ≡ gone_at m i (row xs)
+no_child_shed m [] zero l = refl
+no_child_shed m [] (suc i) l = refl
+no_child_shed m (x ∷ xs) zero l = absurd (Prim.omega (arith, l))
+no_child_shed m (None ∷ xs) (suc i) l = no_child_shed m xs i (Prim.omega (arith, l))
+no_child_shed m (Some t ∷ xs) (suc i) l = no_child_shed m xs i (Prim.omega (arith, l))
+
+pub child_told : {c d : Seen} (xs : List (Option Tree)) (i : ℕ) (x : Option Tree) → i < length xs → x ≡ get_or xs i x → Leaves c (λ r. gone_of (ids r) x) (gone_of evals x) d → Leaves c (λ r. gone_at (ids r) i (row xs)) (gone_at evals i (row xs)) d
+child_told {c = c} xs i x l is told =
+    leaves_more (leaves_none c) told (λ r. Prim.omega (arith, child_shed (ids r) xs i x l, ap (gone_of (ids r)) is)) (Prim.omega (arith, child_shed evals xs i x l, ap (gone_of evals) is))
+
+pub no_child_told : (c : Seen) (xs : List (Option Tree)) (i : ℕ) → length xs ≤ i → Leaves c (λ r. gone_at (ids r) i (row xs)) (gone_at evals i (row xs)) c
+no_child_told c xs i l =
+    leaves_more (leaves_none c) (leaves_none c) (λ r. Prim.omega (arith, no_child_shed (ids r) xs i l)) (Prim.omega (arith, no_child_shed evals xs i l))
+
+pub child_named : (xs : List (Option Tree)) (i : ℕ) (x y : Option Tree) → i < length xs → y ≡ named_child (get_or xs i x) → row (set xs i y) ≡ named_there i (row xs)
+child_named [] i x y l puts = absurd (Prim.omega (arith, l))
+child_named (None ∷ xs) zero x y l puts = ap (λ z. row (z ∷ xs)) puts
+child_named (Some t ∷ xs) zero x y l puts = ap (λ z. row (z ∷ xs)) puts
+child_named (None ∷ xs) (suc i) x y l puts = ap absent (child_named xs i x y (Prim.omega (arith, l)) puts)
+child_named (Some t ∷ xs) (suc i) x y l puts = ap (node t.kind t.note t.below) (child_named xs i x y (Prim.omega (arith, l)) puts)
+
+pub no_child_named : (xs : List (Option Tree)) (i : ℕ) → length xs ≤ i → row xs ≡ named_there i (row xs)
+no_child_named [] zero l = refl
+no_child_named [] (suc i) l = refl
+no_child_named (x ∷ xs) zero l = absurd (Prim.omega (arith, l))
+no_child_named (None ∷ xs) (suc i) l = ap absent (no_child_named xs i (Prim.omega (arith, l)))
+no_child_named (Some t ∷ xs) (suc i) l = ap (node t.kind t.note t.below) (no_child_named xs i (Prim.omega (arith, l)))
