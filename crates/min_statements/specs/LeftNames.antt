@@ -52,6 +52,14 @@ module _ (m : Forest → ℕ) where
 
 -- ---- what stands there then
 
+abbrev pub item_leaves_names : (listed : Bool) → Option Tree → Bool
+item_leaves_names listed None = false
+item_leaves_names listed (Some x) = leaves_names listed x.kind x.below
+
+abbrev pub names_of_item : Option Tree → Option Tree
+names_of_item None = None
+names_of_item (Some x) = names_of x.kind x.note x.below
+
 abbrev pub named_item : (listed : Bool) → Option Tree → Option Tree
 named_item listed None = None
 named_item listed (Some x) = if leaves_names listed x.kind x.below then names_of x.kind x.note x.below else Some (record { kind = x.kind; note = x.note; below = branch_named x.kind x.below })

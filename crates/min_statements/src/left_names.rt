@@ -7,7 +7,7 @@ ghost use Rattle.min_expressions.specs.Kept.{kept_if};
 ghost use Rattle.min_traverse.specs.Lawful.{Does};
 ghost use Rattle.steps.specs.KeepForm.Part.{leaves_names_of};
 ghost use Rattle.rules.specs.Expressions.LeftNames.{leaves_names, names_of, with_names, row_leaves, branch_leaves, branch_named, name_if};
-ghost use Rattle.min_statements.specs.LeftNames.{named_by_truth, named_among, named_at, row_gone, inside_gone, one_gone, gone_of, gone_at, named_item, named_child, named_there};
+ghost use Rattle.min_statements.specs.LeftNames.{named_by_truth, named_among, named_at, row_gone, inside_gone, one_gone, gone_of, gone_at, item_leaves_names, names_of_item, named_item, named_child, named_there};
 
 use crate::untaken::{is_list, runs_inside};
 use crate::vars::{declares_vars_alone, has_vars, vars_bind_names};
@@ -54,6 +54,24 @@ fn names_of(alloc: Global, node: &Node) -> Result<Option<Node>, AllocError>
     let mut names = KeepVar::new(alloc);
     names.visit_statement(node)?;
     names.get_variable_declaration_statement()
+}
+
+fn item_leaves_names(listed: bool, item: &Option<Node>) -> bool
+    ensures { result ≡ item_leaves_names listed item.now }
+{
+    match item {
+        Some(node) => leaves_names(listed, node),
+        None => false,
+    }
+}
+
+fn names_of_item(alloc: Global, item: &Option<Node>) -> Result<Option<Node>, AllocError>
+    ensures { IfOk result (λ y. y ≡ names_of_item item.now) }
+{
+    match item {
+        Some(node) => names_of(alloc, node),
+        None => Ok(None),
+    }
 }
 
 // ---- whether there is one. The recursion goes as deep as the tree.
@@ -230,16 +248,14 @@ fn name_each(alloc: Global, listed: bool, items: &mut [Option<Node>]) -> Result<
 fn name_item(alloc: Global, listed: bool, item: &mut Option<Node>) -> Result<(), AllocError>
     ensures { IfOk result (λ u. item.new ≡ named_item listed item.old) }
 {
-    let Some(node) = item else {
-        return Ok(());
-    };
-    if leaves_names(listed, node) {
-        *item = names_of(alloc, node)?;
+    if item_leaves_names(listed, item) {
+        *item = names_of_item(alloc, item)?;
         return Ok(());
     }
-    name_inside(alloc, node)
+    name_child(alloc, item)
 }
 
+#[cycle(names)]
 fn name_child(alloc: Global, child: &mut Option<Node>) -> Result<(), AllocError>
     ensures { IfOk result (λ u. child.new ≡ named_child child.old) }
 {

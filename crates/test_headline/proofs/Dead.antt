@@ -41,7 +41,9 @@ use Rattle.steps.specs.Allowed.KnownIf.{consequent_is_run, alternate_is_run}
 use Rattle.steps.specs.Allowed.DeadIf.{nothing_is_run}
 use Rattle.steps.specs.Allowed.EmptyBlock.{holds_nothing, empty_block_leaves}
 use Rattle.steps.specs.Allowed.Unreached.{only_runs, never_runs}
+use Rattle.steps.specs.Allowed.KeptNames.{names_stay}
 use Rattle.steps.specs.Allowed.Untaken.{never_taken}
+use Rattle.steps.specs.KeepForm.Part.{leaves_names_of}
 use Rattle.steps.specs.Allowed.RepeatedImport.{repeated_import_leaves}
 use Rattle.steps.specs.Allowed.MergedImports.{MergesIn, merges_here, merges_behind, MergedImports, imports_merge}
 use Rattle.steps.specs.Allowed.PassedExports.{PassesIn, passes_here, passes_behind, PassedExports, exports_pass}
@@ -57,7 +59,7 @@ use Rattle.steps.proofs.Owed.IdleStatement.{idle_runs}
 use Rattle.steps.proofs.KeepForm.Asked.{idle_kinds}
 use Rattle.steps.proofs.Owed.IdleBody.{body_kind}
 use Rattle.headline.specs.Headline.{ImportsAreUsed}
-use Rattle.headline.specs.Clean.{IsDead, an_empty_statement, an_empty_block, a_silent_statement, an_unused_function, an_unused_declarator, a_value_of_an_unused_name, an_unused_import, a_known_conditional, a_known_side, an_unused_operation, an_unused_list, an_indirect_choice, a_one_sided_choice, idle_parts, two_sides, an_unused_object, a_known_operation, a_known_if, a_dead_if, an_empty_if, an_empty_alternate, an_unreached_statement, an_untaken_statement, an_unrun_value, an_idle_statement, a_repeated_import, an_idle_try, an_idle_body, Clean}
+use Rattle.headline.specs.Clean.{IsDead, an_empty_statement, an_empty_block, a_silent_statement, an_unused_function, an_unused_declarator, a_value_of_an_unused_name, an_unused_import, a_known_conditional, a_known_side, an_unused_operation, an_unused_list, an_indirect_choice, a_one_sided_choice, idle_parts, two_sides, an_unused_object, a_known_operation, a_known_if, a_dead_if, an_empty_if, an_empty_alternate, an_unreached_statement, an_untaken_statement, a_statement_of_names, an_unrun_value, an_idle_statement, a_repeated_import, an_idle_try, an_idle_body, Clean}
 use Rattle.min_peephole.specs.Quiet.{is_quiet}
 use Rattle.min_peephole.proofs.Quieted.{quiet_clean}
 use Rattle.test_headline.specs.Rows as row
@@ -705,6 +707,19 @@ negative_suspect : (k : Kind) (n : Note) (below : Forest) (i : ℕ) → Negative
 negative_suspect _ n below i (under_one o _ _ _ idle may is) = refl
 negative_suspect _ n below i (under_two o _ _ _ idle may is) = refl
 
+leaving_runs : (k : Kind) → leaves_names_of k ≡ true → only_runs k ≡ true
+leaving_runs (Kind.LabeledStatement label) h = refl
+leaving_runs Kind.IfStatement h = refl
+leaving_runs Kind.WithStatement h = refl
+leaving_runs Kind.WhileStatement h = refl
+leaving_runs Kind.DoWhileStatement h = refl
+leaving_runs Kind.ForStatement h = refl
+leaving_runs Kind.ForInStatement h = refl
+leaving_runs Kind.ForOfStatement h = refl
+leaving_runs Kind.SwitchStatement h = refl
+leaving_runs Kind.TryStatement h = refl
+leaving_runs k h = absurd (true≢false (sym h))
+
 runs_suspect : (k : Kind) → only_runs k ≡ true → is_suspect k ≡ true
 runs_suspect Kind.EmptyStatement h = refl
 runs_suspect Kind.ExpressionStatement h = refl
@@ -724,6 +739,9 @@ runs_suspect Kind.ImportDefaultSpecifier h = refl
 runs_suspect Kind.ImportNamespaceSpecifier h = refl
 runs_suspect (Kind.ImportDeclaration source) h = refl
 runs_suspect k h = h
+
+leaving_suspect : (k : Kind) → leaves_names_of k ≡ true → is_suspect k ≡ true
+leaving_suspect k h = runs_suspect k (leaving_runs k h)
 
 block_suspect : (k : Kind) (below : Forest) → holds_nothing k below ≡ true → is_suspect k ≡ true
 block_suspect Kind.BlockStatement below h = refl
@@ -766,6 +784,7 @@ dead_suspect t a x is (a_dead_if b y z (nothing_is_run n m i j v k c d truth non
 dead_suspect t a x is (an_empty_block b y (empty_block_leaves item held)) = ap has_suspect is ∙ suspect_there b y (block_suspect y.kind y.below held)
 dead_suspect t a x is (an_unreached_statement b y (never_runs item jump runs none)) = ap has_suspect is ∙ suspect_there b y (runs_suspect y.kind runs)
 dead_suspect t a x is (an_untaken_statement b y (never_taken item untaken runs none)) = ap has_suspect is ∙ suspect_there b y (runs_suspect y.kind runs)
+dead_suspect t a x is (a_statement_of_names b _ _ (names_stay y z item untaken leaves others plain made)) = ap has_suspect is ∙ suspect_there b y (leaving_suspect y.kind leaves)
 dead_suspect t a x is (an_unrun_value b y _ (value_never_given n _ given unrun drops)) = ap has_suspect is ∙ value_suspect b y given
 dead_suspect t a x is (an_idle_try b y z (finalizer_is_run n i j c d idle loops)) = ap has_suspect is ∙ suspect_there b _ refl
 dead_suspect t a x is (an_idle_try b y z (finalizer_is_run_alone n i h j k c d e idle none loops)) = ap has_suspect is ∙ suspect_there b _ refl

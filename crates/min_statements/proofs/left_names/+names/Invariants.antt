@@ -7,13 +7,16 @@ use Rattle.min_statements.proofs.Kept.{changing}
 use Rattle.min_statements.proofs.left_names.+names.Given as goal
 
 abbrev pub decreases-name_inside : goal.decreases-name_inside
-decreases-name_inside l = 3 * tree_size l.node.now
+decreases-name_inside l = 4 * tree_size l.node.now
 
 abbrev pub decreases-name_item : goal.decreases-name_item
-decreases-name_item l = 3 * child_size l.item.now + 1
+decreases-name_item l = 4 * child_size l.item.now + 2
+
+abbrev pub decreases-name_child : goal.decreases-name_child
+decreases-name_child l = 4 * child_size l.child.now + 1
 
 abbrev pub decreases-name_each : goal.decreases-name_each
-decreases-name_each l = 3 * size_of (row l.items.now) + 2
+decreases-name_each l = 4 * size_of (row l.items.now) + 3
 
 abbrev pub invariant-name_each-loop-item : goal.invariant-name_each-loop-item
 invariant-name_each-loop-item l = record {
