@@ -161,7 +161,7 @@ form_kept (empties_idle {k = k} {n = n} {m = m} {a = a} {r = r} {s = s} idle loo
     both_empty (broken_at (g j) empty_statement q nothing ++ []) (broken_in g (suc j) (q + node_count (node empty_statement m nothing nothing)) s) (both_empty (broken_at (g j) empty_statement q nothing) [] (empty_keeps (g j) q) refl)
     (form_kept rest f g same heads (suc i) (suc j) (p + node_count (node k n a nothing)) (q + node_count (node empty_statement m nothing nothing)) (λ d. ap (λ n. suc n) (e d))
     (second_empty (broken_at (f i) k p a ++ broken_in (inside (f i) k a) 0 (p + one_each k) a) (broken_in f (suc i) (p + node_count (node k n a nothing)) r) h))
-form_kept (states {how = how} {x = x} {k = k} {n = n} {m = m} {l = l} {j = j} {i = y} {o = o} {b = b} {r = r} {s = s} listed unasked out rest) f g same i j2 p q e h =
+form_kept (states {how = how} {x = x} {k = k} {n = n} {m = m} {l = l} {j = j} {i = y} {o = o} {b = b} {r = r} {s = s} listed unasked out rest) f g same heads i j2 p q e h =
     let value = alone k y b in
     let name = node (binding_name x) j nothing value in
     let declarator = alone variable_declarator l name in
@@ -172,7 +172,7 @@ form_kept (states {how = how} {x = x} {k = k} {n = n} {m = m} {l = l} {j = j} {i
     both_empty (broken_at (g j2) expression_statement q value ++ broken_in (inside (g j2) expression_statement value) 0 (q + one_each expression_statement) value) (broken_in g (suc j2) (q + node_count (node expression_statement o value nothing)) s)
     (ap (λ c. broken_at c expression_statement q value ++ broken_in (inside c expression_statement value) 0 (q + one_each expression_statement) value) (same i j2 e)
     ∙ value_kept (f i) how x m l j k y b (p + one_each (variable_declaration how)) q (second_empty own below (first_empty (own ++ below) behind h)))
-    (form_kept rest f g same (suc i) (suc j2) (p + node_count (node (variable_declaration how) n all nothing)) (q + node_count (node expression_statement o value nothing)) (λ d. ap (λ n. suc n) (e d)) (second_empty (own ++ below) behind h))
+    (form_kept rest f g same heads (suc i) (suc j2) (p + node_count (node (variable_declaration how) n all nothing)) (q + node_count (node expression_statement o value nothing)) (λ d. ap (λ n. suc n) (e d)) (second_empty (own ++ below) behind h))
 form_kept (leaves_names {k = k} {n = n} {m = m} {a = a} {b = b} {r = r} {s = s} listed unasked stay rest) f g same heads i j p q e h =
     let own = broken_at (f i) k p a ++ broken_in (inside (f i) k a) 0 (p + one_each k) a in
     let new = broken_at (g j) a_var q b ++ broken_in (inside (g j) a_var b) 0 (q + one_each a_var) b in

@@ -40,11 +40,11 @@ module _ (test : Kind → Forest → Bool) where
       rw (emptied may) (less_if (test expression_statement a) q (places_fewer (p + node_count (node empty_statement m nothing nothing)) (q + node_count (node expression_statement n a nothing)) same emptied unasked declared rest))
   places_fewer p q same emptied unasked declared (empties_idle {k = k} {n = n} {m = m} {a = a} idle loops may unnamed rest) =
       rw (emptied may) (less_if (test k a) q (places_fewer (p + node_count (node empty_statement m nothing nothing)) (q + node_count (node k n a nothing)) same emptied unasked declared rest))
-  places_fewer p q same emptied unasked (states {how = how} {x = x} {k = k} {n = n} {m = m} {l = l} {j = j} {i = i} {o = o} {b = b} listed calm out rest) =
+  places_fewer p q same emptied unasked declared (states {how = how} {x = x} {k = k} {n = n} {m = m} {l = l} {j = j} {i = i} {o = o} {b = b} listed calm out rest) =
       let value = alone k i b in
       let all = declares_one m l j x value in
       rw (unasked calm expression_statement value refl)
-      (less_if (test (variable_declaration how) all) q (places_fewer (p + node_count (node expression_statement o value nothing)) (q + node_count (node (variable_declaration how) n all nothing)) same emptied unasked rest))
+      (less_if (test (variable_declaration how) all) q (places_fewer (p + node_count (node expression_statement o value nothing)) (q + node_count (node (variable_declaration how) n all nothing)) same emptied unasked declared rest))
   places_fewer p q same emptied unasked declared (leaves_names {k = k} {n = n} {m = m} {a = a} {b = b} listed plain stay rest) =
       rw (declared listed b) (less_if (test k a) q (places_fewer (p + node_count (node a_var m b nothing)) (q + node_count (node k n a nothing)) same emptied unasked declared rest))
   places_fewer p q same emptied unasked declared (becomes {w = w} {k = k} {l = l} {n = n} {m = m} {a = a} {b = b} part may bare rest) =
