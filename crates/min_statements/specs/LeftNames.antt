@@ -3,6 +3,7 @@ use Rattle.std.specs.Prelude.{ℕ, zero, suc, ◌+◌, Bool, true, false, Option
 use Rattle.js_syntax.specs.declared.node_kind.NodeKind.{NodeKind as Kind}
 use Rattle.js_syntax.specs.declared.node_kind.NodeKind.TheVariants.{IfStatement as if_statement}
 use Rattle.js_syntax.specs.Node.{Forest, Tree, nothing, node, absent, alone}
+use Rattle.scope_laws.specs.Place.{placed}
 use Rattle.min_expressions.specs.Kept.{kept_if}
 use Rattle.rules.specs.Expressions.LeftNames.{leaves_names, names_of, branch_named, branch_leaves}
 use Rattle.rules.specs.Expressions.Untaken.{is_list}
@@ -67,6 +68,22 @@ named_item listed (Some x) = if leaves_names listed x.kind x.below then names_of
 abbrev pub named_child : Option Tree → Option Tree
 named_child None = None
 named_child (Some x) = Some (record { kind = x.kind; note = x.note; below = branch_named x.kind x.below })
+
+-- of the child at a place
+abbrev pub named_of : ℕ → Forest → Option Tree
+named_of at nothing = None
+named_of zero (absent rest) = None
+named_of zero (node k n below rest) = Some (record { kind = k; note = n; below = branch_named k below })
+named_of (suc at) (absent rest) = named_of at rest
+named_of (suc at) (node k n below rest) = named_of at rest
+
+-- a child in the place of the one that stands there
+abbrev pub put_there : ℕ → Option Tree → Forest → Forest
+put_there at x nothing = nothing
+put_there zero x (absent rest) = placed x rest
+put_there zero x (node k n below rest) = placed x rest
+put_there (suc at) x (absent rest) = absent (put_there at x rest)
+put_there (suc at) x (node k n below rest) = node k n below (put_there at x rest)
 
 abbrev pub named_there : ℕ → Forest → Forest
 named_there at nothing = nothing

@@ -1,5 +1,5 @@
 // What becomes of an `if` of which the test is known, and of a `try` around nothing.
-ghost use Rattle.std.specs.Prelude.{◌≡◌, IfOk};
+ghost use Rattle.std.specs.Prelude.{◌≡◌, ◌×◌, IfOk, OnErr};
 ghost use Rattle.js_syntax.specs.Node.{row};
 ghost use Rattle.min_traverse.specs.Lawful.{either, Does};
 ghost use Rattle.steps.specs.Allowed.Branches.{is_branch};
@@ -207,9 +207,10 @@ fn thin_if(node: &mut Node, ctx: &mut MinifierTraverseCtx) -> bool
 /// name around it; and empty, if there is no branch to run. A `try` around nothing becomes its finalizer, or its block. An `if` whose
 /// branches are empty becomes a statement of its test. One with an empty alternate loses that, where none of an `if` around may follow.
 /// Else, what declares no name around it leaves the branch that isn't taken, or of what declares names by `var` alone a declaration of these is
-/// left. The context is told. It fails only for want of memory.
+/// left. The context is told. It fails only for want of memory; then all is as it was.
 pub fn try_fold_if(node: &mut Node, ctx: &mut MinifierTraverseCtx) -> Result<bool, AllocError>
     ensures does { IfOk result (λ answer. Does at_if_end ctx.old node.old answer ctx.new node.new) }
+    ensures refused { OnErr result ((node.new ≡ node.old) × (ctx.new ≡ ctx.old)) }
 {
     if thin_if(node, ctx) {
         return Ok(true);

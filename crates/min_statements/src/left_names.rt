@@ -1,5 +1,5 @@
 // In a branch that isn't taken, a statement that declares names by `var`, and no others around it, becomes a declaration of these.
-ghost use Rattle.std.specs.Prelude.{◌≡◌, Some, true, false, IfOk};
+ghost use Rattle.std.specs.Prelude.{◌≡◌, ◌×◌, Some, true, false, IfOk, OnErr};
 ghost use Rattle.js_syntax.specs.Node.{row};
 ghost use Rattle.scope_counts.specs.Counts.{ids};
 ghost use Rattle.min_context.specs.Edited.{evals, Leaves};
@@ -7,12 +7,13 @@ ghost use Rattle.min_expressions.specs.Kept.{kept_if};
 ghost use Rattle.min_traverse.specs.Lawful.{Does};
 ghost use Rattle.steps.specs.KeepForm.Part.{leaves_names_of};
 ghost use Rattle.rules.specs.Expressions.LeftNames.{leaves_names, names_of, with_names, row_leaves, branch_leaves, branch_named, name_if};
-ghost use Rattle.min_statements.specs.LeftNames.{named_by_truth, named_among, named_at, row_gone, inside_gone, one_gone, gone_of, gone_at, item_leaves_names, names_of_item, named_item, named_child, named_there};
+ghost use Rattle.min_statements.specs.LeftNames.{named_by_truth, named_among, named_at, row_gone, inside_gone, one_gone, gone_of, gone_at, item_leaves_names, names_of_item, named_item, named_child, named_of, put_there};
 
 use crate::untaken::{is_list, runs_inside};
 use crate::vars::{declares_vars_alone, has_vars, vars_bind_names};
 use js_syntax::NodeKind;
 use js_tree::Node;
+use js_tree_copy::clone_node;
 use kept_names::KeepVar;
 use min_context::MinifierTraverseCtx;
 use min_expressions::truth_given;
@@ -265,35 +266,70 @@ fn name_child(alloc: Global, child: &mut Option<Node>) -> Result<(), AllocError>
     }
 }
 
-fn name_there(alloc: Global, parts: &mut [Option<Node>], at: usize) -> Result<(), AllocError>
-    ensures { IfOk result (λ u. row parts.new ≡ named_there at (row parts.old)) }
+// ---- in a copy of the branch, which takes its place once it is made: what wants memory comes first
+
+fn named_copy(alloc: Global, branch: &Node) -> Result<Option<Node>, AllocError>
+    ensures { IfOk result (λ y. y ≡ named_child (Some branch.now)) }
 {
-    if at < parts.len() {
-        name_child(alloc, &mut parts[at])
-    } else {
-        Ok(())
+    let mut copy = clone_node(alloc, branch)?;
+    name_inside(alloc, &mut copy)?;
+    Ok(Some(copy))
+}
+
+fn named_if_any(alloc: Global, branch: &Option<Node>) -> Result<Option<Node>, AllocError>
+    ensures { IfOk result (λ y. y ≡ named_child branch.now) }
+{
+    match branch {
+        Some(node) => named_copy(alloc, node),
+        None => Ok(None),
     }
 }
 
-fn name_branch(alloc: Global, node: &mut Node, at: usize) -> Result<(), AllocError>
-    ensures { IfOk result (λ u. node.new ≡ record node.old { below = named_there at node.old.below }) }
+fn named_branch(
+    alloc: Global,
+    parts: &[Option<Node>],
+    at: usize,
+) -> Result<Option<Node>, AllocError>
+    ensures { IfOk result (λ y. y ≡ named_of at (row parts.now)) }
+{
+    if at < parts.len() {
+        named_if_any(alloc, &parts[at])
+    } else {
+        Ok(None)
+    }
+}
+
+fn put_there(parts: &mut [Option<Node>], at: usize, branch: Option<Node>)
+    ensures { row parts.new ≡ put_there at branch.entry (row parts.old) }
+{
+    if at < parts.len() {
+        parts[at] = branch;
+    }
+}
+
+fn put_branch(alloc: Global, node: &mut Node, at: usize, branch: Option<Node>)
+    ensures { node.new ≡ record node.old { below = put_there at branch.entry node.old.below } }
 {
     let mut parts = node.replace_children(Vec::new(alloc));
-    let done = name_there(alloc, parts.as_mut_slice(), at);
+    put_there(parts.as_mut_slice(), at, branch);
     node.replace_children(parts);
-    done
 }
 
 /// In the branch of an `if` that isn't taken, statements of a list that declare names by `var`, and no others around them, become declarations
-/// of these. The context is told. The only error is want of memory.
-pub(crate) fn leave_names(node: &mut Node, ctx: &mut MinifierTraverseCtx) -> Result<bool, AllocError>
+/// of these. The context is told. It fails only for want of memory; then all is as it was.
+pub(crate) fn leave_names(
+    node: &mut Node,
+    ctx: &mut MinifierTraverseCtx,
+) -> Result<bool, AllocError>
     ensures does { IfOk result (λ answer. Does name_if ctx.old node.old answer ctx.new node.new) }
+    ensures refused { OnErr result ((node.new ≡ node.old) × (ctx.new ≡ ctx.old)) }
 {
     let Some(at) = named_at(node, ctx.alloc()) else {
         return Ok(false);
     };
+    let branch = named_branch(ctx.alloc(), node.children(), at)?;
     ctx.notice_change();
     drop_named(node.children(), at, ctx);
-    name_branch(ctx.alloc(), node, at)?;
+    put_branch(ctx.alloc(), node, at, branch);
     Ok(true)
 }

@@ -143,7 +143,8 @@ fn has_declarator(children: &[Option<Node>]) -> bool
     ensures { result ≡ has_declarator (row children.now) }
 {
     match children {
-        [Some(list), ..] => matches!(list.kind(), NodeKind::Declarators) && has_node(list.children()),
+        [Some(list), ..] => matches!(list.kind(), NodeKind::Declarators)
+            && has_node(list.children()),
         [None, ..] => false,
         [] => false,
     }
