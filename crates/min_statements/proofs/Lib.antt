@@ -19,5 +19,6 @@ mod Seeing
 mod Emptying
 mod Thinning
 mod Naming
+mod Declaring
 mod Valuing
 mod Spared

@@ -23,7 +23,7 @@ use Rattle.rules.specs.Expressions.Ifs.{given_if}
 use Rattle.rules.specs.Expressions.Untaken.{is_list}
 use Rattle.rules.specs.Expressions.LeftNames.{leaves_names, names_of, with_names, branch_leaves, branch_named, what_is_named, if_named, name_if}
 use Rattle.rules.proofs.Expressions.LeftNames.{is_named, kept_there, names_there}
-use Rattle.min_statements.specs.LeftNames.{named_by_truth, named_at, row_gone, inside_gone, one_gone, gone_of, gone_at, named_item, named_child, named_there}
+use Rattle.min_statements.specs.LeftNames.{named_by_truth, named_at, row_gone, inside_gone, one_gone, gone_of, gone_at, named_item, named_child, named_of, put_there, named_there}
 use Rattle.min_statements.proofs.Calls.{is_no_name, CallsStay}
 use Rattle.min_statements.proofs.Emptying.{others}
 use Rattle.min_statements.proofs.Shed.{Adds, ids_add, evals_add, leaves_none, leaves_more, edited}
@@ -239,16 +239,43 @@ pub no_child_told : (c : Seen) (xs : List (Option Tree)) (i : ℕ) → length xs
 no_child_told c xs i l =
     leaves_more (leaves_none c) (leaves_none c) (λ r. Prim.omega (arith, no_child_shed (ids r) xs i l)) (Prim.omega (arith, no_child_shed evals xs i l))
 
-pub child_named : (xs : List (Option Tree)) (i : ℕ) (x y : Option Tree) → i < length xs → y ≡ named_child (get_or xs i x) → row (set xs i y) ≡ named_there i (row xs)
-child_named [] i x y l puts = absurd (Prim.omega (arith, l))
-child_named (None ∷ xs) zero x y l puts = ap (λ z. row (z ∷ xs)) puts
-child_named (Some t ∷ xs) zero x y l puts = ap (λ z. row (z ∷ xs)) puts
-child_named (None ∷ xs) (suc i) x y l puts = ap absent (child_named xs i x y (Prim.omega (arith, l)) puts)
-child_named (Some t ∷ xs) (suc i) x y l puts = ap (node t.kind t.note t.below) (child_named xs i x y (Prim.omega (arith, l)) puts)
+pub child_of : (xs : List (Option Tree)) (i : ℕ) (x : Option Tree) → i < length xs → x ≡ get_or xs i x → named_child x ≡ named_of i (row xs)
+child_of [] i x l is = absurd (Prim.omega (arith, l))
+child_of (None ∷ xs) zero x l is = ap named_child is
+child_of (Some t ∷ xs) zero x l is = ap named_child is
+child_of (None ∷ xs) (suc i) x l is = child_of xs i x (Prim.omega (arith, l)) is
+child_of (Some t ∷ xs) (suc i) x l is = child_of xs i x (Prim.omega (arith, l)) is
 
-pub no_child_named : (xs : List (Option Tree)) (i : ℕ) → length xs ≤ i → row xs ≡ named_there i (row xs)
-no_child_named [] zero l = refl
-no_child_named [] (suc i) l = refl
-no_child_named (x ∷ xs) zero l = absurd (Prim.omega (arith, l))
-no_child_named (None ∷ xs) (suc i) l = ap absent (no_child_named xs i (Prim.omega (arith, l)))
-no_child_named (Some t ∷ xs) (suc i) l = ap (node t.kind t.note t.below) (no_child_named xs i (Prim.omega (arith, l)))
+pub no_child_of : (xs : List (Option Tree)) (i : ℕ) → length xs ≤ i → None ≡ named_of i (row xs)
+no_child_of [] zero l = refl
+no_child_of [] (suc i) l = refl
+no_child_of (x ∷ xs) zero l = absurd (Prim.omega (arith, l))
+no_child_of (None ∷ xs) (suc i) l = no_child_of xs i (Prim.omega (arith, l))
+no_child_of (Some t ∷ xs) (suc i) l = no_child_of xs i (Prim.omega (arith, l))
+
+put_first : (x y : Option Tree) (ts : List (Option Tree)) → row (y ∷ ts) ≡ put_there 0 y (row (x ∷ ts))
+put_first None None ts = refl
+put_first None (Some t) ts = refl
+put_first (Some u) None ts = refl
+put_first (Some u) (Some t) ts = refl
+
+pub child_put : (xs : List (Option Tree)) (i : ℕ) (y : Option Tree) → i < length xs → row (set xs i y) ≡ put_there i y (row xs)
+child_put [] i y l = absurd (Prim.omega (arith, l))
+child_put (x ∷ xs) zero y l = put_first x y xs
+child_put (None ∷ xs) (suc i) y l = ap absent (child_put xs i y (Prim.omega (arith, l)))
+child_put (Some t ∷ xs) (suc i) y l = ap (node t.kind t.note t.below) (child_put xs i y (Prim.omega (arith, l)))
+
+pub no_child_put : (xs : List (Option Tree)) (i : ℕ) (y : Option Tree) → length xs ≤ i → row xs ≡ put_there i y (row xs)
+no_child_put [] zero y l = refl
+no_child_put [] (suc i) y l = refl
+no_child_put (x ∷ xs) zero y l = absurd (Prim.omega (arith, l))
+no_child_put (None ∷ xs) (suc i) y l = ap absent (no_child_put xs i y (Prim.omega (arith, l)))
+no_child_put (Some t ∷ xs) (suc i) y l = ap (node t.kind t.note t.below) (no_child_put xs i y (Prim.omega (arith, l)))
+
+pub named_put : (i : ℕ) (t : Forest) → put_there i (named_of i t) t ≡ named_there i t
+named_put zero nothing = refl
+named_put (suc i) nothing = refl
+named_put zero (absent rest) = refl
+named_put zero (node k n below rest) = refl
+named_put (suc i) (absent rest) = ap absent (named_put i rest)
+named_put (suc i) (node k n below rest) = ap (node k n below) (named_put i rest)

@@ -4,3 +4,4 @@ mod Left
 mod Dead
 mod Stated
 mod Imported
+mod Named

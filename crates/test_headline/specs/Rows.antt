@@ -268,6 +268,10 @@ never_holds = form.a_module (either_way (either logical.And (form.reads form.a) 
 abbrev pub keeps_variable : Forest
 keeps_variable = form.a_module (if_null (form.block (form.declares variable.Var (form.binds form.a) form.one ∷ form.does call_of_b ∷ [])) form.no ∷ use_of_a ∷ [])
 
+-- if (null) { while (a) var a; } use(a);
+abbrev pub keeps_loop : Forest
+keeps_loop = form.a_module (if_null (form.block (while_ (form.reads form.a) (form.var_ form.a) ∷ [])) form.no ∷ use_of_a ∷ [])
+
 -- import a from 'm'; import 'm';
 abbrev pub imports_again : Forest
 imports_again = form.a_module (imports form.a ∷ imports_nothing ∷ [])

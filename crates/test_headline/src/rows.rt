@@ -69,7 +69,8 @@ pub fn what_others_may_use_stays()
 /// (null) a();`, the call of `throw 1; a();`, that of `b` in `if (null) { var a = 1; b(); } use(a);` and in `if (a && null) { b(); }`, `l:
 /// { {} }`, `l: while (null) a();`, the call of `if (null) var a = b(); use(a);`, `l: { break l; a(); }`, the `try` of `try {} finally {
 /// a(); }`, the block of `while (a) {}`, the `if` of `if (a) ;`, the alternate of `if (a) a(); else ;`, the name of `let x = a();`, the second
-/// import of `import a from 'm'; import b from 'm';`, or the import of `import a from 'm'; export { a };`.
+/// import of `import a from 'm'; import b from 'm';`, the import of `import a from 'm'; export { a };`, or the loop of `if (null) { while (a)
+/// var a; } use(a);`.
 pub fn dead_code_goes()
     ensures number { Headline row.dead row.dead → ⊥ }
     ensures conditional { Headline row.takes_branch row.takes_branch → ⊥ }
@@ -100,6 +101,7 @@ pub fn dead_code_goes()
     ensures value { Headline row.names_call row.names_call → ⊥ }
     ensures apart { Headline row.imports_twice row.imports_twice → ⊥ }
     ensures shown { Headline row.shows_import row.shows_import → ⊥ }
+    ensures names { Headline row.keeps_loop row.keeps_loop → ⊥ }
 {}
 
 /// `1;` is dead code, and so are `{ ; }`'s empty statement, a function that nothing calls, one of two declarators, a name of an import that
@@ -117,7 +119,8 @@ pub fn dead_code_goes()
 /// import 'm';`, what a jump to its label leaves at once: `l: { break l; a(); }`, a `try` around nothing: `try {} finally { a(); }`, a
 /// block of nothing that is a body: `while (a) {}`, an `if` whose branches are empty: `if (a) ;`, an empty alternate: `if (a) a(); else ;`,
 /// a declaration of one name that nothing refers to, though its value acts: `let x = a();`, a second import of a module of which the first
-/// may take the names: `import a from 'm'; import b from 'm';`, and an import of what is exported alone: `import a from 'm'; export { a };`.
+/// may take the names: `import a from 'm'; import b from 'm';`, an import of what is exported alone: `import a from 'm'; export { a };`, and a
+/// statement of a branch that isn't taken, which declares a name: `if (null) { while (a) var a; } use(a);`.
 pub fn dead_code_is_told()
     ensures number { Clean (a_module (does one ∷ [])) → ⊥ }
     ensures empty { Clean (a_module (block (empty ∷ []) ∷ [])) → ⊥ }
@@ -154,6 +157,7 @@ pub fn dead_code_is_told()
     ensures value { Clean row.names_call → ⊥ }
     ensures apart { Clean row.imports_twice → ⊥ }
     ensures shown { Clean row.shows_import → ⊥ }
+    ensures names { Clean row.keeps_loop → ⊥ }
 {}
 
 /// A call is none, nor a function that is exported, a variable beside a direct call of `eval`, a function of a script, a
