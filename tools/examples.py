@@ -40,7 +40,7 @@ cases['statements']=[
  N('ForInStatement',left=var('const',(a,None)),right=b,body=B(ES(call(f)))), N('ForOfStatement',left=mem(a,b),right=b,body=B(ES(call(f))),**{'await':False}),
  prog([fn('FunctionDeclaration',f,[a,N('AssignmentPattern',left=b,right=L(1)),N('RestElement',argument=N('ArrayPattern',elements=[None,c]))],B(N('ExpressionStatement',expression=L('d'),directive='d'),N('IfStatement',test=a,consequent=N('ReturnStatement',argument=a),alternate=None),N('ReturnStatement',argument=None)))],'script'),
 ]
-SILENT=('Literal','ArrowFunctionExpression','FunctionExpression','UnaryExpression')
+SILENT=('Literal','ThisExpression','ArrowFunctionExpression','FunctionExpression','UnaryExpression')
 cases['expressions']=[N('ThrowStatement',argument=e) if e['type'] in SILENT else ES(e) for e in [
  L(None),L(True),L(7),N('Literal',value={},regex=dict(pattern='a',flags='g')),N('ThisExpression'),
  call(I('use'),N('ArrayExpression',elements=[a,None,N('SpreadElement',argument=b)])),
