@@ -1,5 +1,5 @@
 -- What has no effects by a context's answers is quiet where these are true, and what a remover takes out has none.
-use Rattle.std.proofs.Common.{◌≡◌, ◌⊎◌, inl, inr, List, Bool, true, false, not, ◌||◌, Option, Some, None, is_some, if◌then◌else◌, bytes_eq, codes, refl, sym, true≢false}
+use Rattle.std.proofs.Common.{◌≡◌, ◌⊎◌, inl, inr, List, Bool, true, false, not, ◌||◌, if◌then◌else◌, bytes_eq, codes, refl, sym, true≢false}
 use Rattle.std.specs.List.{list_any}
 use Rattle.js_syntax.specs.declared.node_kind.NodeKind.{NodeKind as Kind}
 use Rattle.js_syntax.specs.declared.kind.ClassKind.TheVariants as class_kind
@@ -10,14 +10,12 @@ use Rattle.js_syntax.proofs.Truth.{first_of_both, second_of_both, first_of_neith
 use Rattle.js_effects.specs.Answers.{Answers}
 use Rattle.js_effects.specs.Still.{is_value}
 use Rattle.js_effects.specs.Effects.{is_silent_name, is_typeof_name, is_still, does_nothing, only_runs_parts, converts_primitives, has_silent_key, runs_as_allowed, runs_parts, parts_run, part_acts, acts_from, each_acts, any_acts}
-use Rattle.js_meaning.specs.Value.{Text, Slot, Env, this_name}
+use Rattle.js_meaning.specs.Value.{Text, Env}
 use Rattle.js_meaning.specs.State.{normal}
-use Rattle.js_meaning.specs.Scope.{look}
 use Rattle.js_meaning.specs.Host.{Enter}
-use Rattle.js_meaning.specs.Reference.{name_value}
-use Rattle.js_meaning.specs.Node.{run, value, now, Parts}
+use Rattle.js_meaning.specs.Node.{run, now}
 use Rattle.js_meaning.specs.Meaning.{does, if_core, eval}
-use Rattle.js_effects_quiet.specs.Quiet.{Quietly, IsNormal, Quiet}
+use Rattle.js_effects_quiet.specs.Quiet.{Quietly, IsNormal}
 use Rattle.js_effects_quiet.specs.Silent.{HasBinding, QuietNode, QuietRow, meaning}
 use Rattle.js_effects_quiet.specs.Acts.{IsTold, AreTold, AreTrue}
 use Rattle.js_effects_quiet.proofs.Quiet.{quiet_done, quiet_unknown, quiet_value}

@@ -1,5 +1,5 @@
 -- What has no effects by the facts is silent where it stands.
-use Rattle.std.proofs.Common.{◌≡◌, ◌∙◌, ◌⊎◌, ◌+◌, ℕ, suc, List, ◌++◌, Bool, true, false, not, ◌&&◌, ◌||◌, true≢false, if◌then◌else◌, is_some, codes, bytes_eq, Option, Some, None, inl, inr, refl, sym, ap, subst}
+use Rattle.std.proofs.Common.{◌≡◌, ◌∙◌, ◌⊎◌, ◌+◌, ℕ, suc, List, ◌++◌, Bool, true, false, ◌||◌, true≢false, is_some, codes, bytes_eq, Option, Some, None, inl, inr, refl, sym, ap, subst}
 use Rattle.std.proofs.lemmas.Bool.{or_cases}
 use Rattle.std.proofs.lemmas.Option.{get_or_from_slice_get}
 use Rattle.js_syntax.specs.declared.node_kind.NodeKind.{NodeKind as Kind}
