@@ -5,8 +5,8 @@
 //! node becomes another in its place. `Edits` are such edits one after the other, from program to program.
 //!
 //! The code is empty: each function's contract is a law.
-pub mod kept_names;
 pub mod laws;
 pub mod rows;
 pub mod silent_calls;
+pub mod untaken_names;
 pub mod values;
