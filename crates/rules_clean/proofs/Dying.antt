@@ -34,7 +34,7 @@ use Rattle.rules.proofs.DeadCode.Places.{to, plugged, join, plug_join, is_row, s
 use Rattle.rules.proofs.DeadCode.Stating.{states, value_stated}
 use Rattle.rules.proofs.Expressions.Becoming.{none_of}
 use Rattle.rules.proofs.DeadCode.Leaving.{Quiet, statement_silent, function_unused, declarator_unused}
-use Rattle.rules.proofs.DeadCode.Items.{IsItems, items_where, item_there, knows_there, known_laid, item_scope, declaration, in_declaration, declarator_plugged, declarator_there, declarator_with, declarator_declares}
+use Rattle.rules.proofs.DeadCode.Items.{IsItems, items_where, item_there, knows_there, known_laid, item_scope, declaration, in_declaration, declarator_plugged, declarator_there, declarator_surroundings, declarator_declares}
 use Rattle.rules.proofs.DeadCode.Trimming.{Goes, a_name, goes_view}
 use Rattle.rules.proofs.DeadCode.Splitting.{list_items}
 use Rattle.rules_clean.proofs.Finding.{dead_item, dead_declarator, declarator_of}
@@ -126,7 +126,7 @@ module _ (f : Facts) where
         let b = to a (in_declaration how n m d more rest) in
         let o = declarator_unused f h.marked (scope_of (where_of p) how) b l j x value (subst (λ t. Knows f h.marked t) (sym (declarator_plugged a d how n m more rest y)) h.knows)
         (declarator_declares a d how n m more rest f p (record { kind = variable_declarator; note = l; below = node (binding_name x) j nothing value }) items row h) e
-        (subst (λ c. Quiet f c value) (sym (declarator_with a d how n m more rest p items row)) quiet) in
+        (subst (λ c. Quiet f c value) (sym (declarator_surroundings a d how n m more rest p items row)) quiet) in
         subst (λ t. HasDead f t) (declarator_plugged a d how n m more rest y) (here_dead f b y (an_unused_declarator b l j x value (variable_unkept f (scope_of (where_of p) how) j.id e) (declarator_there a d how n m more rest p items row) o.own o.silent o.free))
 
     declaration_dead : (a : counts.Around) (how : VariableKind) (n m : Note) (ds rest : Forest) → IsItems p a → are_declarators ds ≡ true → one_goes f (where_of p) how ds ≡ true → Known f (plug a (declaration how n m ds rest)) → HasDead f (plug a (declaration how n m ds rest))
