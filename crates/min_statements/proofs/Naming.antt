@@ -279,3 +279,6 @@ named_put zero (absent rest) = refl
 named_put zero (node k n below rest) = refl
 named_put (suc i) (absent rest) = ap absent (named_put i rest)
 named_put (suc i) (node k n below rest) = ap (node k n below) (named_put i rest)
+
+pub put_named : (x y : Tree) (i : ℕ) (b : Forest) (o : Option Tree) → b ≡ x.below → o ≡ named_of i b → y ≡ record x { below = put_there i o x.below } → y ≡ record x { below = named_there i x.below }
+put_named x y i b o is made put = put ∙ ap {B = Tree} (λ t. record x { below = t }) (ap (λ p. put_there i p x.below) (made ∙ ap (named_of i) is) ∙ named_put i x.below)

@@ -326,7 +326,7 @@ not_left f p n if_statement b h = (each_none p n if_statement b (three_none f p 
 not_left f p n k b h = refl
 
 not_named : (f : Facts) (p : Place) (n : Note) (k : Kind) (b : Forest) → Unchanged f p n k b → if_named n k b ≡ None
-not_named f p n if_statement b h = (each_none p n if_statement b (none_ends f p n if_statement b (h refl))).named
+not_named f p n if_statement b h = (each_none p n if_statement b (three_none f p n if_statement b (h refl)).1).named
 not_named f p n k b h = refl
 
 none_unused : (f : Facts) (p : Place) (n : Note) (k : Kind) (b : Forest) → Unchanged f p n k b → (let x : Tree = record { kind = k; note = n; below = b } in pruned f (where_of p) x ≡ None)

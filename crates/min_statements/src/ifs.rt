@@ -1,5 +1,5 @@
 // What becomes of an `if` of which the test is known, and of a `try` around nothing.
-ghost use Rattle.std.specs.Prelude.{◌≡◌, ◌×◌, IfOk, OnErr};
+ghost use Rattle.std.specs.Prelude.{◌≡◌, IfOk, OnErr};
 ghost use Rattle.js_syntax.specs.Node.{row};
 ghost use Rattle.min_traverse.specs.Lawful.{either, Does};
 ghost use Rattle.steps.specs.Allowed.Branches.{is_branch};

@@ -1,5 +1,5 @@
 // In a branch that isn't taken, a statement that declares names by `var`, and no others around it, becomes a declaration of these.
-ghost use Rattle.std.specs.Prelude.{◌≡◌, ◌×◌, Some, true, false, IfOk, OnErr};
+ghost use Rattle.std.specs.Prelude.{◌≡◌, Some, true, false, IfOk, OnErr};
 ghost use Rattle.js_syntax.specs.Node.{row};
 ghost use Rattle.scope_counts.specs.Counts.{ids};
 ghost use Rattle.min_context.specs.Edited.{evals, Leaves};
@@ -300,7 +300,7 @@ fn named_branch(
 }
 
 fn put_there(parts: &mut [Option<Node>], at: usize, branch: Option<Node>)
-    ensures { row parts.new ≡ put_there at branch.entry (row parts.old) }
+    ensures { row parts.new ≡ put_there at branch (row parts.old) }
 {
     if at < parts.len() {
         parts[at] = branch;
@@ -308,7 +308,7 @@ fn put_there(parts: &mut [Option<Node>], at: usize, branch: Option<Node>)
 }
 
 fn put_branch(alloc: Global, node: &mut Node, at: usize, branch: Option<Node>)
-    ensures { node.new ≡ record node.old { below = put_there at branch.entry node.old.below } }
+    ensures { node.new ≡ record node.old { below = put_there at branch node.old.below } }
 {
     let mut parts = node.replace_children(Vec::new(alloc));
     put_there(parts.as_mut_slice(), at, branch);
