@@ -463,8 +463,8 @@ names_alone : (ds : List Declared) → names_in ds ≡ only_names (named ds)
 names_alone [] = refl
 names_alone (d ∷ ds) = ap (λ l. d.name ∷ l) (names_alone ds)
 
-kept_named : (a : Around) (x y : Tree) → KeptNames a x y → Fits root (plug a (Some x)) → SameNames x y
-kept_named a _ _ (names_stay x y item never holds alone_vars plain is) fits = λ s calm.
+kept_named : (a : Around) (x y : Tree) → KeptNames a x y → Fits root (plug a (Some x)) → SameNames a x y
+kept_named a _ _ (names_stay x y item never holds alone_vars plain is) fits = λ s calm shared.
     let old = declared s 0 (forest_of x) in
     let new = declared s 0 (forest_of y) in
     sym (names_anywhere s 0 (forest_of y))
