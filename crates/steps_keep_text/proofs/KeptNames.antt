@@ -21,8 +21,8 @@ names_weigh_less counts k n m a b left =
     elim (kept_few (total counts) (total_sums counts) (alone k n a) left.plain) [
       | inl none ↦ absurd (left.some (sym left.kept_are ∙ none))
       | inr few ↦
-        let there : whole (total counts) (total_sums counts) left.names ≤ total counts (alone k n a) = subst (λ ts. whole (total counts) (total_sums counts) ts ≤ total counts (alone k n a)) left.kept_are few in
-        subst (λ c. counts a_var + total counts c ≤ counts k + total counts a) (sym left.is) (Prim.omega (arith, there))
+          let there : whole (total counts) (total_sums counts) left.names ≤ total counts (alone k n a) = subst (λ ts. whole (total counts) (total_sums counts) ts ≤ total counts (alone k n a)) left.kept_are few in
+          subst (λ c. counts a_var + total counts c ≤ counts k + total counts a) (sym left.is) (Prim.omega (arith, there))
     ]
 
 -- ---- levels
@@ -119,6 +119,6 @@ names_no_deeper k n m a b left =
     elim (kept_deep (λ i. 0) 0 (alone k n a) left.plain) [
       | inl none ↦ absurd (left.some (sym left.kept_are ∙ none))
       | inr deep ↦
-        let new = new_deep 0 left.names left.bare in
-        subst (λ c. levels_at (lower a_var) 0 c ≤ levels_at (lower k) 0 a) (sym left.is) (Prim.omega (arith, own, deep, new))
+          let new = new_deep 0 left.names left.bare in
+          subst (λ c. levels_at (lower a_var) 0 c ≤ levels_at (lower k) 0 a) (sym left.is) (Prim.omega (arith, own, deep, new))
     ]
