@@ -482,7 +482,7 @@ pub guarded_is_clean : Clean row.calls_behind_a
 guarded_is_clean = quiet_clean _ guarded_fits refl
 
 -- use(a);
-use_stands : Stand (these (one_of expression ∷ [])) (sample.call (reads (codes "use")) (reads a ∷ []))
+pub use_stands : Stand (these (one_of expression ∷ [])) (sample.call (reads (codes "use")) (reads a ∷ []))
 use_stands = ((a_call_expression, (false, (false, tt)), refl, tt, refl, ((a_reference_name, (codes "use", tt), refl, tt, refl, tt), ((refl, ((a_reference_name, (a, tt), refl, tt, refl, tt), tt)), tt))), tt)
 
 use_fits : Fits root row.uses_a

@@ -272,6 +272,10 @@ keeps_variable = form.a_module (if_null (form.block (form.declares variable.Var 
 abbrev pub keeps_loop : Forest
 keeps_loop = form.a_module (if_null (form.block (while_ (form.reads form.a) (form.var_ form.a) ∷ [])) form.no ∷ use_of_a ∷ [])
 
+-- if (null) { var a; } use(a);
+abbrev pub keeps_name : Forest
+keeps_name = form.a_module (if_null (form.block (form.var_ form.a ∷ [])) form.no ∷ use_of_a ∷ [])
+
 -- import a from 'm'; import 'm';
 abbrev pub imports_again : Forest
 imports_again = form.a_module (imports form.a ∷ imports_nothing ∷ [])

@@ -188,8 +188,8 @@ pub fn rules_take_dead_code_alone()
 
 /// `f(1);` may take the place of `f(1); 2;`, `a();` that of `!(a() === 1);`, of `[a(), 1];`, of `({ a: a() });` and of `let x = a();`, `a(), b();` that of
 /// `[a(), 1, b()];` and of `a() === b();`, `(0, o.g)();` that of `(1 ? o.g : null)();` and of `(1, o.g)();`, `a && b();` that of `a ? b() :
-/// 1;`, `use(a);` that of `use((1, a));`, `use(true);` that of `use(!0);`, and `export { default as a } from 'm';` that of `import a from 'm';
-/// export { a };`.
+/// 1;`, `use(a);` that of `use((1, a));`, `use(true);` that of `use(!0);`, `export { default as a } from 'm';` that of `import a from 'm';
+/// export { a };`, and `if (null) { var a; } use(a);` that of `if (null) { while (a) var a; } use(a);`.
 pub fn what_is_left()
     ensures statement { Headline row.with_dead row.calls_host }
     ensures operand { Headline row.compares_call row.calls_a }
@@ -204,6 +204,7 @@ pub fn what_is_left()
     ensures known { Headline row.uses_negation row.uses_true }
     ensures named { Headline row.names_call row.calls_a }
     ensures shown { Headline row.shows_import row.passes_default }
+    ensures names { Headline row.keeps_loop row.keeps_name }
 {}
 
 /// Edits lead from `f(-4); 2;` with a literal for -4 to `f(-4);`, which is written with unary minus on 4.
