@@ -23,20 +23,20 @@ returns-then-state_value c =
       visited = λ quiet. stated_visits c.args.self.now quiet none (subst (λ (b : Bool). Does (state c.args.self.now) c.empty_statement.new.ctx c.empty_statement.new.node b c.state_value.new.ctx c.state_value.new.node) c.if-state_value.true c.state_value.ensures.does);
     }
 
-pub returns-then-try_fold_if : goal.returns-then-try_fold_if
-returns-then-try_fold_if c =
+pub returns-then-branch : goal.returns-then-branch
+returns-then-branch c =
     let none = subst (λ (b : Bool). Does (empty c.args.self.now) c.args.ctx.now c.args.node.now b c.empty_statement.new.ctx c.empty_statement.new.node) c.if-empty_statement.false c.empty_statement.ensures.does in
     let unstated = subst (λ (b : Bool). Does (state c.args.self.now) c.empty_statement.new.ctx c.empty_statement.new.node b c.state_value.new.ctx c.state_value.new.node) c.if-state_value.false c.state_value.ensures.does in
     record {
-      moves = fold_moves (stays AnyEdit (λ o t u e. e)) c.args.self.now none unstated c.try_fold_if.ensures.does;
-      visited = λ quiet. fold_visits c.args.self.now quiet none unstated (subst (λ (b : Bool). Does at_if_end c.state_value.new.ctx c.state_value.new.node b c.try_fold_if.new.ctx c.try_fold_if.new.node) c.if-try_fold_if.true c.try_fold_if.ensures.does);
+      moves = fold_moves (stays AnyEdit (λ o t u e. e)) c.args.self.now none unstated c.in_ok-try_fold_if.ensures.does;
+      visited = λ quiet. fold_visits c.args.self.now quiet none unstated (subst (λ (b : Bool). Does at_if_end c.state_value.new.ctx c.state_value.new.node b c.try_fold_if.new.ctx c.try_fold_if.new.node) c.if-branch.true c.in_ok-try_fold_if.ensures.does);
     }
 
 pub returns : goal.returns
 returns c =
     let none = subst (λ (b : Bool). Does (empty c.args.self.now) c.args.ctx.now c.args.node.now b c.empty_statement.new.ctx c.empty_statement.new.node) c.if-empty_statement.false c.empty_statement.ensures.does in
     let unstated = subst (λ (b : Bool). Does (state c.args.self.now) c.empty_statement.new.ctx c.empty_statement.new.node b c.state_value.new.ctx c.state_value.new.node) c.if-state_value.false c.state_value.ensures.does in
-    let unfolded = subst (λ (b : Bool). Does at_if_end c.state_value.new.ctx c.state_value.new.node b c.try_fold_if.new.ctx c.try_fold_if.new.node) c.if-try_fold_if.false c.try_fold_if.ensures.does in
+    let unfolded = subst (λ (b : Bool). Does at_if_end c.state_value.new.ctx c.state_value.new.node b c.try_fold_if.new.ctx c.try_fold_if.new.node) c.if-branch.false c.in_ok-try_fold_if.ensures.does in
     record {
       moves = statement_moves (stays AnyEdit (λ o t u e. e)) c.args.self.now none unstated unfolded c.remove_unused_import_specifiers.ensures.does;
       visited = λ quiet. statement_visits c.args.self.now quiet none unstated unfolded c.remove_unused_import_specifiers.ensures.does;
