@@ -1,10 +1,9 @@
 -- Of which statements a declaration of names is left doesn't see notes.
-use Rattle.std.proofs.Common.{◌≡◌, ◌∙◌, Bool, true, false, ◌&&◌, ◌||◌, Some, if◌then◌else◌, refl, sym, ap, ap₂}
-use Rattle.std.specs.Prelude.{map}
+use Rattle.std.proofs.Common.{◌≡◌, ◌∙◌, Bool, true, false, ◌&&◌, ◌||◌, if◌then◌else◌, refl, ap, ap₂}
 use Rattle.js_syntax.specs.declared.node_kind.NodeKind.{NodeKind as Kind}
 use Rattle.js_syntax.specs.declared.node_kind.NodeKind.TheVariants.{BindingName as binding_name, Declarators as declarators, VariableDeclarator as variable_declarator}
 use Rattle.js_syntax.specs.Node.{Forest, Tree, Note, nothing, node, absent, nowhere, bare, forest_of}
-use Rattle.kept_names.specs.Kept.{is_var, holds_statements, kept, declarator_of, declaration_of}
+use Rattle.kept_names.specs.Kept.{is_var, holds_statements, kept}
 use Rattle.scope_laws.proofs.Notes.{unseen}
 use Rattle.scope_laws.specs.Place.{Around}
 use Rattle.steps.specs.Allowed.Branches.{declares_none}
@@ -12,8 +11,8 @@ use Rattle.steps.specs.Allowed.KeptNames.{KeptNames, names_stay}
 use Rattle.steps.specs.Allowed.Places.{IsItem}
 use Rattle.steps.specs.Allowed.Untaken.{is_untaken}
 use Rattle.steps.specs.VarNames.Declared.{is_code, without_vars}
-use Rattle.steps.specs.VarNames.Plain.{binds_name, bind_names, has_names, vars_bind_names_at, vars_bind_names}
-use Rattle.steps.specs.VarNames.Has.{has_node, has_declarator, has_vars_at, has_vars}
+use Rattle.steps.specs.VarNames.Plain.{binds_name, bind_names, has_names, vars_bind_names}
+use Rattle.steps.specs.VarNames.Has.{has_node, has_declarator, has_vars}
 use Rattle.steps.proofs.VarNames.HasNames.{some_kept, has_some, declares_some, declares_kept}
 use Rattle.headline.proofs.RenotedIf.{declares_bare}
 

@@ -1,8 +1,8 @@
 -- What the calls on names in a branch that isn't taken do is what the rule answers, and the context is told of exactly what goes.
-use Rattle.std.proofs.Common.{◌≡◌, ◌∙◌, ◌<◌, ◌≤◌, ◌+◌, ◌-◌, ℕ, zero, suc, Bool, true, false, if◌then◌else◌, List, [], ◌∷◌, Option, Some, None, map, length, take, drop, get_or, set, refl, sym, ap, subst, arith, true≢false}
+use Rattle.std.proofs.Common.{◌≡◌, ◌∙◌, ◌<◌, ◌≤◌, ◌+◌, ◌-◌, ℕ, zero, suc, Bool, true, false, if◌then◌else◌, List, [], ◌∷◌, Option, Some, None, map, length, take, drop, get_or, set, refl, sym, ap, subst, arith}
 use Rattle.js_syntax.specs.declared.node_kind.NodeKind.{NodeKind as Kind}
-use Rattle.js_syntax.specs.declared.node_kind.NodeKind.TheVariants.{BindingName as binding_name, Declarators as declarators, VariableDeclarator as variable_declarator, IfStatement as if_statement}
-use Rattle.js_syntax.specs.Node.{Forest, Tree, Note, nothing, node, absent, nowhere, alone, forest_of, row}
+use Rattle.js_syntax.specs.declared.node_kind.NodeKind.TheVariants.{BindingName as binding_name, VariableDeclarator as variable_declarator, IfStatement as if_statement}
+use Rattle.js_syntax.specs.Node.{Forest, Tree, Note, nothing, node, absent, alone, forest_of, row}
 use Rattle.js_syntax.proofs.Truth.{first_of_both, second_of_both}
 use Rattle.kept_names.specs.Kept.{kept, declarator_of, declaration_of}
 use Rattle.scope_counts.specs.Counts.{ids}
@@ -15,8 +15,7 @@ use Rattle.min_traverse.specs.Lawful.{Does}
 use Rattle.min_traverse.proofs.Joining.{does_some, does_none}
 use Rattle.steps.specs.Allowed.Untaken.{truth_given, runs_inside}
 use Rattle.steps.specs.Allowed.UnrunValue.{passes}
-use Rattle.steps.specs.Allowed.Uses.{Use, use_at, stands_bare}
-use Rattle.steps.specs.KeepForm.Part.{a_var}
+use Rattle.steps.specs.Allowed.Uses.{use_at, stands_bare}
 use Rattle.steps.proofs.VarNames.Again.{is_name_alone, is_bare_name, are_names}
 use Rattle.steps.proofs.VarNames.Counted.{kept_bound}
 use Rattle.rules.specs.Expressions.Ifs.{given_if}

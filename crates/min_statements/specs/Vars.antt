@@ -2,7 +2,7 @@
 use Rattle.std.specs.Prelude.{Bool, true, false, if◌then◌else◌}
 use Rattle.js_syntax.specs.declared.node_kind.NodeKind.{NodeKind as Kind}
 use Rattle.js_syntax.specs.declared.node_kind.NodeKind.TheVariants.{BindingName as binding_name}
-use Rattle.js_syntax.specs.Node.{Forest, nothing, node, absent}
+use Rattle.js_syntax.specs.Node.{Forest, nothing, node}
 use Rattle.steps.specs.VarNames.Declared.{is_code, without_vars}
 
 -- a name, below which nothing stands

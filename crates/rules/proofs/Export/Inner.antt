@@ -1,5 +1,5 @@
 -- No export stands in a statement, so that of one that leaves a declaration of its names each declaration that counts stays.
-use Rattle.std.proofs.Common.{◌≡◌, ◌∙◌, ◌<◌, inl, inr, ℕ, suc, List, [], ◌∷◌, ◌++◌, Bool, true, false, not, ◌&&◌, true≢false, Some, refl, sym, ap, ap₂, subst, arith}
+use Rattle.std.proofs.Common.{◌≡◌, ◌∙◌, ◌<◌, inl, inr, ℕ, suc, [], ◌∷◌, ◌++◌, Bool, true, false, not, ◌&&◌, true≢false, Some, refl, sym, ap, ap₂, subst, arith}
 use Rattle.js_syntax.specs.Class.{Class, root, a_prologue, module_item, statement, expression, private_key}
 use Rattle.js_syntax.specs.declared.node_kind.NodeKind.{NodeKind as Kind}
 use Rattle.js_syntax.specs.Hint.{has, is_private}

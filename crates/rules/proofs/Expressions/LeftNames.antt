@@ -1,9 +1,9 @@
 -- In a branch that isn't taken statements become declarations of their names, by edits.
-use Rattle.std.proofs.Common.{◌≡◌, ◌∙◌, inl, inr, List, [], ◌∷◌, ◌++◌, Bool, true, false, ◌&&◌, ◌||◌, ◌≤◌, Option, Some, None, if◌then◌else◌, append-nil, arith, refl, sym, ap, subst, true≢false}
+use Rattle.std.proofs.Common.{◌≡◌, ◌∙◌, [], ◌++◌, Bool, true, false, ◌&&◌, ◌≤◌, Option, Some, None, if◌then◌else◌, append-nil, arith, refl, sym, ap, subst}
 use Rattle.js_syntax.specs.declared.node_kind.NodeKind.{NodeKind as Kind}
 use Rattle.js_syntax.specs.declared.node_kind.NodeKind.TheVariants.{IfStatement as if_statement}
 use Rattle.js_syntax.specs.Facts.{weight}
-use Rattle.js_syntax.specs.Node.{Forest, Tree, Note, nothing, node, absent, alone, forest_of}
+use Rattle.js_syntax.specs.Node.{Forest, Tree, Note, nothing, node, absent, alone}
 use Rattle.js_syntax.proofs.Truth.{both, first_of_both, second_of_both}
 use Rattle.kept_names.specs.Kept.{kept}
 use Rattle.min_pass.specs.declared.around.Around.{Around as Asked}
@@ -13,7 +13,7 @@ use Rattle.scope_counts.specs.Edits.{here, behind, behind_none, under, plug}
 use Rattle.scope_laws.specs.Place.{first, placed}
 use Rattle.steps.specs.Allowed.Branches.{declares_none, declares_no_name}
 use Rattle.steps.specs.Allowed.Edits.{Edit, becomes, kept_names, TreeEdits, no_tree_edit, one_tree_edit}
-use Rattle.steps.specs.Allowed.KeptNames.{KeptNames, names_stay}
+use Rattle.steps.specs.Allowed.KeptNames.{names_stay}
 use Rattle.steps.specs.Allowed.KnownIf.{an_if}
 use Rattle.steps.specs.Allowed.Untaken.{truth_given, runs_inside}
 use Rattle.steps.specs.KeepForm.Part.{leaves_names_of}

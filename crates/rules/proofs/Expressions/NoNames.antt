@@ -1,10 +1,10 @@
 -- Where the rule on names answers nothing, no statement stands in a branch that isn't taken of which a declaration might be left; and the
 -- other way round.
-use Rattle.std.proofs.Common.{◌≡◌, ◌∙◌, ◌⊎◌, inl, inr, List, [], ◌∷◌, ◌++◌, Bool, true, false, ◌&&◌, ◌||◌, Option, Some, None, is_some, if◌then◌else◌, append-nil, refl, sym, ap, subst, true≢false}
+use Rattle.std.proofs.Common.{◌≡◌, ◌∙◌, ◌⊎◌, inl, inr, Bool, true, false, ◌&&◌, ◌||◌, Option, Some, None, is_some, append-nil, refl, sym, ap, subst, true≢false}
 use Rattle.std.proofs.lemmas.Bool.{or_cases}
 use Rattle.js_syntax.specs.declared.node_kind.NodeKind.{NodeKind as Kind}
 use Rattle.js_syntax.specs.declared.node_kind.NodeKind.TheVariants.{IfStatement as if_statement}
-use Rattle.js_syntax.specs.Node.{Forest, Tree, Note, nothing, node, absent, alone, forest_of}
+use Rattle.js_syntax.specs.Node.{Forest, Tree, Note, nothing, node, absent, forest_of}
 use Rattle.js_syntax.proofs.Truth.{both, first_of_both, second_of_both, first_of_either, second_of_either}
 use Rattle.kept_names.specs.Kept.{kept}
 use Rattle.min_pass.specs.declared.around.Around.{Around as Asked}
@@ -14,16 +14,15 @@ use Rattle.scope_counts.specs.Edits as counts
 use Rattle.scope_counts.specs.Edits.{here, behind, behind_none, under, plug}
 use Rattle.scope_laws.specs.Place as places
 use Rattle.scope_laws.specs.Place.{first}
-use Rattle.steps.specs.Allowed.Branches.{declares_none, declares_no_name}
+use Rattle.steps.specs.Allowed.Branches.{declares_no_name}
 use Rattle.steps.specs.Allowed.KeptNames.{KeptNames, names_stay}
 use Rattle.steps.specs.Allowed.KnownIf.{an_if}
 use Rattle.steps.specs.Allowed.Places.{asked_at, IsItem}
 use Rattle.steps.specs.Allowed.Untaken.{truth_given, begins_untaken, runs_inside, is_untaken}
-use Rattle.steps.specs.KeepForm.Part.{leaves_names_of}
 use Rattle.steps.specs.VarNames.Declared.{without_vars}
 use Rattle.steps.specs.VarNames.Plain.{vars_bind_names}
 use Rattle.steps.proofs.VarNames.HasNames.{has_some, declares_kept}
-use Rattle.rules.specs.Expressions.LeftNames.{leaves_names, names_of, row_leaves, branch_leaves, branch_named, what_is_named, if_named}
+use Rattle.rules.specs.Expressions.LeftNames.{leaves_names, row_leaves, branch_leaves, branch_named, what_is_named, if_named}
 use Rattle.rules.specs.Expressions.Untaken.{is_list}
 use Rattle.rules.proofs.DeadCode.Places.{to, plugged, join, plug_join, asked_to}
 use Rattle.rules.proofs.Expressions.Becoming.{no_answer, none_of, chosen, chosen_if}

@@ -1,4 +1,4 @@
-use Rattle.std.proofs.Common.{◌≡◌, ◌∙◌, ◌+◌, ap, set, sym, arith}
+use Rattle.std.proofs.Common.{◌∙◌, ◌+◌, ap, set, sym, arith}
 use Rattle.js_syntax.specs.Node.{row}
 use Rattle.js_tree.specs.Weight.{size_of}
 use Rattle.min_statements.specs.LeftNames.{named_item}

@@ -1,4 +1,4 @@
-use Rattle.std.proofs.Common.{◌≡◌, ◌∙◌, sym, ap}
+use Rattle.std.proofs.Common.{◌∙◌, sym, ap}
 use Rattle.js_syntax.specs.Node.{Forest}
 use Rattle.min_statements.specs.Vars.{is_name_alone}
 use Rattle.min_statements.proofs.Declaring.{name_alone}
